@@ -1,0 +1,16 @@
+pub mod Past
+pub mod Facts
+pub mod Moments
+pub mod Accepted
+pub mod Whole
+pub mod Windows
+pub mod Demand3
+pub mod Tight
+pub mod Verdicts
+pub mod NumbersBack
+pub mod Words
+pub mod WriteBack
+pub mod ReadBack
+pub mod Stored
+pub mod Table
+pub mod Range

@@ -1,0 +1,117 @@
+-- The handler's refusals, in their order, and what its commands ask for.
+use mathlib.Core.Bool.{true, false}
+use mathlib.Core.List.{List, [], _∷_, _++_}
+use mathlib.Core.Option.{Option, none, some}
+use mathlib.Core.Path.{_≡_, refl}
+use Prim.Native.Nat.{ℕ}
+use lib.IntN.{pos}
+use Rattle.model.specs.declared.TimeSource.the-variants.{Admin}
+use Rattle.model.specs.declared.Refusal.the-variants.{Unreadable, ConstraintError, InvalidCommand, CommandNotFound, AttributeNotFound}
+use Rattle.model.specs.Numbers.{granularityOf, sourceOf}
+use Rattle.model.specs.Lists.{empty}
+use Rattle.model.specs.Answers.{refused, answers, done, numberOf, report, emit, wakeTimer, wakeClient, storeSource, removeSource, TrustedTimeSource, MissingTrustedTimeSource}
+use Rattle.model.specs.Rules.{device}
+use Rattle.model.specs.Lookups as L
+use Rattle.model.specs.Clock as C
+use Rattle.model.specs.Clock.{fresh, utcReports}
+use Rattle.model.specs.Store as T
+use Rattle.model.specs.Handler.{Device, Named, setUTCTime, setTrustedTimeSource, setTimeZone, setDSTOffset, loadLists, resetLists, zonesListed, zoneAt, windowsListed, windowAt, zoneLimitRead, databaseRead, generationRead}
+use Rattle.model.specs.Table.{zone}
+use Rattle.model.specs.Examples.Cases.{Gives, _gives_}
+
+-- a device with no list store, and one with empty lists
+abbrev bare : Device
+bare = record { clock = fresh 1000; store = none }
+
+abbrev listing : Device
+listing = record { clock = fresh 1000; store = some (record { rules = device; lists = empty; generation = 0 }) }
+
+-- ## No list store: commands before their bytes are read, readings, and nothing to load or reset
+
+commands : Gives (λ bytes. numberOf (setTimeZone bare bytes .answer)) ((0 ∷ []) gives 5 ∷ (9 ∷ []) gives 5 ∷ [] gives 5 ∷ [])
+unfolding setTimeZone
+commands = refl
+
+readings : Gives (λ index. numberOf (zoneAt bare index)) (0 gives 6 ∷ 1 gives 6 ∷ [])
+unfolding zoneAt
+readings = refl
+
+load-ignored : loadLists bare (some (9 ∷ [])) ≡ record { state = bare; answer = done; effects = [] }
+unfolding loadLists
+load-ignored = refl
+
+reset-ignored : resetLists bare ≡ record { state = bare; answer = done; effects = [] }
+unfolding resetLists
+reset-ignored = refl
+
+-- ## Listing
+
+zones : Gives (zoneAt listing) (0 gives answers (zone (pos 0) 0) ∷ 1 gives refused ConstraintError ∷ 65536 gives refused ConstraintError ∷ [])
+unfolding zoneAt L.zoneAt
+zones = refl
+
+windows : Gives (windowAt listing) (0 gives refused ConstraintError ∷ [])
+unfolding windowAt L.windowAt
+windows = refl
+
+lengths : Gives (λ d. numberOf (zonesListed d)) (bare gives 6 ∷ listing gives 0 ∷ [])
+unfolding zonesListed
+lengths = refl
+
+database : Gives databaseRead (bare gives refused AttributeNotFound ∷ listing gives answers 2 ∷ [])
+unfolding databaseRead
+database = refl
+
+-- ## SetUTCTime
+
+-- granularities 0 to 4 and time sources 0 to 16, or none, are readable
+granularities : Gives (λ g. numberOf (setUTCTime bare 7 g none 1 .answer)) (0 gives 0 ∷ 4 gives 0 ∷ 5 gives 1 ∷ 255 gives 1 ∷ [])
+unfolding setUTCTime granularityOf
+granularities = refl
+
+sources : Gives (λ s. numberOf (setUTCTime bare 7 2 s 1 .answer)) (none gives 0 ∷ some 0 gives 0 ∷ some 16 gives 0 ∷ some 17 gives 1 ∷ some 255 gives 1 ∷ [])
+unfolding setUTCTime granularityOf sourceOf
+sources = refl
+
+unreadable : setUTCTime listing 7 5 none 1 ≡ record { state = listing; answer = refused Unreadable; effects = [] }
+unfolding setUTCTime granularityOf
+unreadable = refl
+
+-- whatever source was sent, the clock's is Admin
+source-is-admin : setUTCTime bare 7 2 (some 16) 1 .state .clock .source ≡ Admin
+unfolding setUTCTime granularityOf sourceOf C.setUtcTime C.isKept C.changes
+source-is-admin = refl
+
+-- the timer is woken only where there is a list store, and there even if nothing changes
+wakes : Gives (λ d. setUTCTime d 7 2 none 1 .effects) (bare gives utcReports ∷ listing gives (utcReports ++ (wakeTimer ∷ [])) ∷ [])
+unfolding setUTCTime granularityOf C.setUtcTime C.isKept C.changes
+wakes = refl
+
+wakes-again : setUTCTime (setUTCTime listing 7 2 none 1 .state) 7 2 none 9 .effects ≡ wakeTimer ∷ []
+unfolding setUTCTime granularityOf C.setUtcTime C.isKept C.changes
+wakes-again = refl
+
+-- ## SetTrustedTimeSource
+
+abbrev node5 : Option Named
+node5 = some (record { node = 5; endpoint = 0 })
+
+-- fabric 0 is turned down before anything else, also where the source would be cleared
+fabric-0 : Gives (setTrustedTimeSource bare 0)
+    (none gives record { state = bare; answer = refused InvalidCommand; effects = [] } ∷ node5 gives record { state = bare; answer = refused InvalidCommand; effects = [] } ∷ [])
+unfolding setTrustedTimeSource
+fabric-0 = refl
+
+-- a new source is reported and stored; an equal one only wakes the client; clearing one emits an event between report and removal
+abbrev sourced : Device
+sourced = setTrustedTimeSource bare 1 node5 .state
+
+source-set : Gives (λ d. setTrustedTimeSource d 1 node5 .effects)
+    (bare gives (report TrustedTimeSource ∷ storeSource (record { fabric = 1; node = 5; endpoint = 0 }) ∷ wakeClient ∷ []) ∷ sourced gives (wakeClient ∷ []) ∷ [])
+unfolding setTrustedTimeSource C.setTrustedTimeSourcePersist C.setTrustedTimeSource
+source-set = refl
+
+source-cleared : Gives (λ d. setTrustedTimeSource d 2 none .effects)
+    (bare gives (wakeClient ∷ []) ∷ sourced gives (report TrustedTimeSource ∷ emit MissingTrustedTimeSource ∷ removeSource ∷ wakeClient ∷ []) ∷ [])
+unfolding setTrustedTimeSource C.setTrustedTimeSourcePersist C.setTrustedTimeSource
+source-cleared = refl

@@ -1,0 +1,23 @@
+-- The Time Synchronization cluster as definitions. No array, no count and no image stands here.
+pub mod Numbers
+pub mod Basics
+pub mod Lists
+pub mod Answers
+pub mod Rules
+pub mod Bytes
+pub mod Lookups
+pub mod Walk
+pub mod History
+pub mod Store
+pub mod Output
+pub mod Clock
+pub mod LocalTime
+pub mod Handler
+pub mod Timer
+pub mod Retries
+pub mod Schedule
+pub mod Table
+pub mod Demand3
+pub mod RoundTrip
+pub mod Claims
+pub mod Examples
