@@ -1,5 +1,6 @@
 -- The Time Synchronization cluster as definitions. No array, no count and no image stands here.
 pub mod Numbers
+pub mod Maybe
 pub mod Basics
 pub mod Lists
 pub mod Answers

@@ -1,0 +1,97 @@
+-- Numbers at a place, read and written, over the width.
+use Prim.Native.Nat.{ℕ, zero, suc, _+_, _-_, _*_, _/_, _%_, _^_, _≤_, _<_}
+use mathlib.Core.Path.{_≡_, refl, sym, ap, subst, _∙_}
+use mathlib.Core.List.{List, [], _∷_, _++_, append-assoc}
+use native.Mathlib.Nat.{pow-le-pow-right, lt-of-lt-of-le, add-zero, sub-zero, one-le-pow}
+use native.Mathlib.Numerals.{add-one}
+use native.Mathlib.Omega.{arith}
+use lib.Dec.{lit<}
+use lib.ListN.{length, take, drop, getD, set, length-append, length-take, length-drop}
+use lib.Seq.{set-split, append-snoc, drop-cons, getD-drop, drop-drop, take-length, take-at, drop-at, length-take-le, paste, paste-zero, paste-suc, length-paste}
+use Rattle.model.specs.Bytes.{number, bytes}
+use Rattle.model.proofs.Words.{length-bytes}
+use Rattle.word.specs.Place.{put}
+
+-- one byte more in front
+pub le-more : (s : List ℕ) (j k : ℕ) → j < length s → number (take (suc k) (drop j s)) ≡ getD s j 0 + 256 * number (take k (drop (suc j) s))
+unfolding number
+le-more s j k h = rw (drop-cons s j 0)
+
+pub take-below : (k : ℕ) (xs : List ℕ) → ((i : ℕ) → getD xs i 0 < 256) → number (take k xs) < 256 ^ k
+unfolding number
+take-below zero xs b = lit< tt
+take-below (suc k) [] b = one-le-pow (suc k) 256 (lit< tt)
+take-below (suc k) (x ∷ xs) b = omega (arith, b 0, take-below k xs (λ i. b (suc i)))
+
+-- what w bytes spell fits w bytes
+pub at-below : (w : ℕ) (s : List ℕ) (at : ℕ) → ((i : ℕ) → getD s i 0 < 256) → number (take w (drop at s)) < 256 ^ w
+at-below w s at b = take-below w (drop at s) (λ i. rw getD-drop (b (at + i)))
+
+-- a turn of the loop that reads, from the last byte to the first
+pub turn-get : (s : List ℕ) (at w i v : ℕ) → 0 < i → i ≤ w → at + w ≤ length s → v ≡ number (take (w - i) (drop (at + i) s))
+    → v * 256 + getD s (at + (i - 1)) 0 ≡ number (take (w - (i - 1)) (drop (at + (i - 1)) s))
+turn-get s at w i v p h l e =
+    let e₁ : w - (i - 1) ≡ suc (w - i) = omega arith in
+    let e₂ : suc (at + (i - 1)) ≡ at + i = omega arith in
+    rw e₁ (omega (arith, le-more s (at + (i - 1)) (w - i) (omega arith), ap (λ (n : ℕ). number (take (w - i) (drop n s))) e₂))
+
+-- what at most k bytes spell is below 256 ^ k
+pub at-most : (k w : ℕ) (s : List ℕ) (at : ℕ) → w ≤ k → ((i : ℕ) → getD s i 0 < 256) → number (take w (drop at s)) < 256 ^ k
+at-most k w s at h b = lt-of-lt-of-le (at-below w s at b) (pow-le-pow-right (lit< tt) h)
+
+-- the loop that writes: what is written so far, and what is left of v
+pub record Sofar (out₀ : List ℕ) (at w v : ℕ) (out : List ℕ) (x i : ℕ) : Type 0 where
+  pub within : i ≤ w
+  pub written : out ≡ paste out₀ at (bytes w v) i
+  pub left : drop i (bytes w v) ≡ bytes (w - i) x
+
+module _ (s : List ℕ) (at w v : ℕ) (h : at + w ≤ length s) where
+  pub start-set : Sofar s at w v s v 0
+  start-set = record { within = omega arith; written = paste-zero s at (bytes w v); left = ap (λ (k : ℕ). bytes k v) (sym (sub-zero w)) }
+
+  pub turn-set : (out : List ℕ) (x i : ℕ) → i < w → Sofar s at w v out x i → Sofar s at w v (set out (at + i) (x % 256)) (x / 256) (i + 1)
+  unfolding bytes
+  turn-set out x i l c =
+      let bs = bytes w v in
+      let e : w - i ≡ suc (w - (i + 1)) = omega arith in
+      let d : drop i bs ≡ x % 256 ∷ bytes (w - (i + 1)) (x / 256) = c .left ∙ ap (λ (k : ℕ). bytes k x) e in
+      let b : getD bs i 0 ≡ x % 256 = ap (λ (k : ℕ). getD bs k 0) (sym (add-zero i)) ∙ sym (getD-drop i bs 0 0) ∙ ap (λ (l : List ℕ). getD l 0 0) d in
+      record {
+        within = omega arith;
+        written = rw (c .written, ← b, add-one) (paste-suc s at bs i 0 (omega arith) (omega (arith, length-bytes w v)));
+        left = sym (drop-drop 1 i bs) ∙ ap (drop 1) d;
+      }
+
+  pub end-set : (out : List ℕ) (x i : ℕ) → w ≤ i → Sofar s at w v out x i → out ≡ put s at (bytes w v)
+  end-set out x i l c =
+      let e : i ≡ length (bytes w v) = omega (arith, length-bytes w v, c .within) in
+      c .written ∙ ap (paste s at (bytes w v)) e ∙ ap (λ (l : List ℕ). take at s ++ l ++ drop (at + length (bytes w v)) s) (take-length (bytes w v))
+
+  pub keeps : (out : List ℕ) (x i : ℕ) → Sofar s at w v out x i → length out ≡ length s
+  keeps out x i c = ap length (c .written) ∙ length-paste s at (bytes w v) i (omega (arith, c .within)) (omega (arith, length-bytes w v, c .within))
+
+-- ## A run of writes
+module _ (s : List ℕ) (at : ℕ) (xs : List ℕ) where
+  put-head : at ≤ length s → length (take at s ++ xs) ≡ at + length xs
+  put-head h = length-append (take at s) xs ∙ ap (λ (n : ℕ). n + length xs) (length-take-le at s h)
+
+  pub length-put : at + length xs ≤ length s → length (put s at xs) ≡ length s
+  length-put h = simp (length-append, length-drop, length-take-le at s (omega arith)) (omega arith)
+
+  -- bytes, and then more bytes after them
+  pub put-put : (ys : List ℕ) {at′ : ℕ} → at′ ≡ at + length xs → at ≤ length s → put (put s at xs) at′ ys ≡ put s at (xs ++ ys)
+  put-put ys e h =
+      let p = take at s ++ xs in
+      let n = at + length xs in
+      let k : n + length ys ≡ at + length (xs ++ ys) = omega (arith, length-append xs ys) in
+      let d : drop (n + length ys) (put s at xs) ≡ drop (at + length (xs ++ ys)) s =
+      sym (drop-drop (length ys) n (put s at xs)) ∙ ap (drop (length ys)) (drop-at p (drop n s) n (put-head h)) ∙ drop-drop (length ys) n s
+      ∙ ap (λ (m : ℕ). drop m s) k in
+      rw e
+      (ap (λ (t : List ℕ). t ++ ys ++ drop (n + length ys) (put s at xs)) (take-at p (drop n s) n (put-head h))
+      ∙ ap (λ (t : List ℕ). p ++ ys ++ t) d
+      ∙ ap (λ (t : List ℕ). t ++ drop (at + length (xs ++ ys)) s) (append-assoc (take at s) xs ys))
+
+-- one byte
+pub put-one : (s : List ℕ) (at b : ℕ) → at < length s → set s at b ≡ put s at (b ∷ [])
+put-one s at b h = set-split s at b h ∙ sym (append-snoc (take at s) b (drop (suc at) s)) ∙ ap (λ (k : ℕ). take at s ++ (b ∷ []) ++ drop k s) (sym (add-one at))

@@ -1,0 +1,4 @@
+pub mod Laws
+pub mod Integers
+pub mod Rows
+pub mod Places

@@ -1,0 +1,3 @@
+-- What the contracts of `word` cite.
+pub mod Place
+pub mod Lead

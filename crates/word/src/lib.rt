@@ -1,0 +1,144 @@
+// Numbers at a place of a slice, little endian and in two's complement. Every function is total: a place past the end reads as missing,
+// and stores nothing.
+pub mod text;
+
+ghost use mathlib.Core.Path.{_≡_};
+ghost use Prim.Native.Nat.{_+_, _≤_, _^_, _<_};
+ghost use lib.ListN.{length, take, drop};
+ghost use Rattle.model.specs.Bytes.{number, bytes, bitsOf, signed};
+ghost use Rattle.model.specs.Maybe.{maybeU64, maybeI32};
+ghost use Rattle.word.specs.Place.{fitsAt, numberAt, signedAt, maybeU32, put, placed};
+use model::MaybeI32;
+use model::MaybeU64;
+
+// A 32-bit number that may be missing.
+pub enum MaybeU32 {
+    Nothing,
+    Is(u32),
+}
+
+// Whether n bytes stand at `at`.
+pub fn in_bounds(s: &[u8], at: usize, n: usize) -> bool
+    ensures { λ r. ⌜ r ≡ fitsAt (now (s .entry)) at n ⌝ }
+{
+    if s.len() < at {
+        return false;
+    }
+    n <= s.len() - at
+}
+
+fn wide(b: u8) -> u64
+    ensures { λ r. ⌜ r ≡ b ⌝ }
+{
+    b as u64
+}
+
+// The number that the w bytes at `at` spell.
+fn get(s: &[u8], at: usize, w: usize) -> u64
+    requires { ⌜ (w ≤ 8) × (at + w ≤ length (now s)) ⌝ }
+    ensures value { λ r. ⌜ r ≡ number (take w (drop at (now (s .entry)))) ⌝ }
+    ensures below { λ r. ⌜ r < 256 ^ w ⌝ }
+{
+    let mut v: u64 = 0;
+    let mut i = w;
+    while 0 < i {
+        i -= 1;
+        v = v * 256 + wide(s[at + i]);
+    }
+    v
+}
+
+// Writes the w lowest bytes of v at `at`.
+fn set(out: &mut [u8], at: usize, w: usize, v: u64)
+    requires { ⌜ at + w ≤ length (now out) ⌝ }
+    ensures { λ _. ⌜ now (out .exit) ≡ put (now (out .entry)) at (bytes w v) ⌝ }
+{
+    let mut x = v;
+    let mut i: usize = 0;
+    while i < w {
+        out[at + i] = (x % 256) as u8;
+        x = x / 256;
+        i += 1;
+    }
+}
+
+// The offset that 32 bits stand for.
+fn from_bits(n: u32) -> i32
+    ensures { λ r. ⌜ r ≡ signed n ⌝ }
+{
+    if n < 0x8000_0000 {
+        n as i32
+    } else {
+        -1 - (0xffff_ffff - n) as i32
+    }
+}
+
+// The 32 bits that stand for an offset.
+fn to_bits(z: i32) -> u32
+    ensures { λ r. ⌜ r ≡ bitsOf z ⌝ }
+{
+    if 0 <= z {
+        z as u32
+    } else {
+        0xffff_ffff - (-1 - z) as u32
+    }
+}
+
+// The 64-bit number at `at`.
+pub fn u64_at(s: &[u8], at: usize) -> MaybeU64
+    ensures { λ r. ⌜ r ≡ maybeU64 (numberAt 8 (now (s .entry)) at) ⌝ }
+{
+    if in_bounds(s, at, 8) {
+        return MaybeU64::Is(get(s, at, 8));
+    }
+    MaybeU64::Nothing
+}
+
+// The 32-bit number at `at`.
+pub fn u32_at(s: &[u8], at: usize) -> MaybeU32
+    ensures { λ r. ⌜ r ≡ maybeU32 (numberAt 4 (now (s .entry)) at) ⌝ }
+{
+    if in_bounds(s, at, 4) {
+        return MaybeU32::Is(get(s, at, 4) as u32);
+    }
+    MaybeU32::Nothing
+}
+
+// The offset at `at`.
+pub fn i32_at(s: &[u8], at: usize) -> MaybeI32
+    ensures { λ r. ⌜ r ≡ maybeI32 (signedAt (now (s .entry)) at) ⌝ }
+{
+    match u32_at(s, at) {
+        MaybeU32::Nothing => MaybeI32::Nothing,
+        MaybeU32::Is(n) => MaybeI32::Is(from_bits(n)),
+    }
+}
+
+// Writes a 64-bit number at `at`, where it fits; answers whether it does.
+pub fn put_u64(out: &mut [u8], at: usize, v: u64) -> bool
+    ensures { λ r. ⌜ (r ≡ fitsAt (now (out .entry)) at 8) × (now (out .exit) ≡ placed (now (out .entry)) at (bytes 8 v)) ⌝ }
+{
+    if in_bounds(out, at, 8) {
+        set(out, at, 8, v);
+        return true;
+    }
+    false
+}
+
+// Writes a 32-bit number at `at`, where it fits; answers whether it does.
+pub fn put_u32(out: &mut [u8], at: usize, v: u32) -> bool
+    ensures { λ r. ⌜ (r ≡ fitsAt (now (out .entry)) at 4) × (now (out .exit) ≡ placed (now (out .entry)) at (bytes 4 v)) ⌝ }
+{
+    if in_bounds(out, at, 4) {
+        set(out, at, 4, v as u64);
+        return true;
+    }
+    false
+}
+
+// Writes an offset at `at`, where it fits; answers whether it does.
+pub fn put_i32(out: &mut [u8], at: usize, z: i32) -> bool
+    ensures { λ r. ⌜ (r ≡ fitsAt (now (out .entry)) at 4) × (now (out .exit) ≡ placed (now (out .entry)) at (bytes 4 (bitsOf z))) ⌝ }
+{
+    put_u32(out, at, to_bits(z))
+}
