@@ -2,3 +2,4 @@ pub mod Laws
 pub mod Integers
 pub mod Rows
 pub mod Places
+pub mod Answers

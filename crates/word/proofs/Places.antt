@@ -22,7 +22,7 @@ module _ (w : ℕ) (s : List ℕ) (at : ℕ) where
       let l : w ≤ length (drop at s) = omega (arith, length-drop at s) in
       rw (le-leb w (length (drop at s)) l, drop-drop w at s)
 
-  pub front-short : at ≤ length s → length s < at + w → takeBytes w (drop at s) ≡ none
+  pub front-short : 0 < w → length s < at + w → takeBytes w (drop at s) ≡ none
   unfolding takeBytes
   front-short p h =
       let l : length (drop at s) < w = omega (arith, length-drop at s) in
@@ -65,3 +65,17 @@ module _ (w : ℕ) (s : List ℕ) (at : ℕ) {b : Bool} (f : b ≡ fitsAt s at w
   pub placed-none : (v : ℕ) → b ≡ false → placed s at (bytes w v) ≡ s
   unfolding placed
   placed-none v t = rw (length-bytes w v, sym f ∙ t)
+
+-- a well-formed part is there
+pub text-there : (n : ℕ) (s : List ℕ) (at : ℕ) → textAt s at n ≡ true → (fitsAt s at n ≡ true) × (wellFormed (take n (drop at s)) ≡ true)
+unfolding textAt
+text-there n s at t = go (fitsAt s at n) t
+  where
+    go : (b : Bool) → cond b (wellFormed (take n (drop at s))) false ≡ true → (b ≡ true) × (wellFormed (take n (drop at s)) ≡ true)
+    go true h = (refl, h)
+    go false h = (h, cc)
+
+-- bytes that fit are put there
+pub placed-there : (s : List ℕ) (at : ℕ) (bs : List ℕ) → at + length bs ≤ length s → placed s at bs ≡ put s at bs
+unfolding placed
+placed-there s at bs h = rw (le-leb (at + length bs) (length s) h)

@@ -1,0 +1,11 @@
+pub mod Front
+pub mod Heads
+pub mod Suffix
+pub mod Sections
+pub mod Indexed
+pub mod Writes
+pub mod Entries
+pub mod Meaning
+pub mod Names
+pub mod AtIndex
+pub mod Again

@@ -1,0 +1,49 @@
+// Runs the test vectors of standard input, a row to a line, and writes each row with its answer.
+mod bytes;
+mod text;
+
+use libc::STDOUT_FILENO;
+
+// Answers what a letter asks about some bytes.
+fn ask(letter: u8, given: &[u8]) {
+    if letter == b'u' {
+        bytes::utf8(given);
+    } else if letter == b'z' {
+        bytes::zones(given);
+    } else if letter == b'w' {
+        bytes::windows(given);
+    } else if letter == b'r' {
+        bytes::record(given);
+    } else {
+        io::write_all(STDOUT_FILENO, b"unknown");
+    }
+}
+
+// Answers one row: a letter for what is asked, a space, and bytes in hexadecimal digits.
+fn answer(row: &[u8]) {
+    io::write_all(STDOUT_FILENO, row);
+    if row.len() < 2 {
+        return;
+    }
+    let mut given = io::buffer();
+    let n = text::hex(&row[2..], &mut given);
+    io::write_all(STDOUT_FILENO, b": ");
+    ask(row[0], &given[..n]);
+}
+
+// Answers every row; an empty one only parts the table.
+fn rows(table: &[u8]) {
+    let mut at: usize = 0;
+    while at < table.len() {
+        let end = text::line_end(table, at);
+        answer(&table[at..end]);
+        io::write_all(STDOUT_FILENO, b"\n");
+        at = end + 1;
+    }
+}
+
+fn main() {
+    let mut table = io::large_buffer();
+    let n = io::read_full(0, &mut table);
+    rows(&table[..n]);
+}

@@ -1,0 +1,74 @@
+// Text in and out: lines, hexadecimal digits, signed numbers.
+ghost use Prim.Native.Nat.{_≤_};
+ghost use lib.ListN.{length};
+ghost use Rattle.io.specs.Counts.{Counts};
+use libc::STDOUT_FILENO;
+use word::MaybeU32;
+
+// Where the line that starts at `at` ends.
+pub fn line_end(s: &[u8], at: usize) -> usize
+    requires { ⌜ at ≤ length (now s) ⌝ }
+    ensures { λ r. ⌜ (at ≤ r) × (r ≤ length (now (s .entry))) ⌝ }
+{
+    let mut i = at;
+    while i < s.len() {
+        if s[i] == b'\n' {
+            return i;
+        }
+        i += 1;
+    }
+    i
+}
+
+// The value of a hexadecimal digit, and 0 for any other byte.
+fn digit(b: u8) -> u8
+    ensures { λ r. ⌜ r ≤ 15 ⌝ }
+{
+    if b < b'0' {
+        return 0;
+    }
+    if b <= b'9' {
+        return b - b'0';
+    }
+    if b < b'a' {
+        return 0;
+    }
+    if b <= b'f' {
+        return b - b'a' + 10;
+    }
+    0
+}
+
+// The bytes that pairs of digits stand for, and how many were stored.
+pub fn hex(s: &[u8], out: &mut [u8]) -> usize
+    ensures { λ r. ⌜ Counts r (now (out .exit)) ⌝ }
+{
+    let mut i: usize = 0;
+    let mut n: usize = 0;
+    while n < out.len() {
+        if s.len() - i < 2 {
+            return n;
+        }
+        let high = digit(s[i]);
+        let low = digit(s[i + 1]);
+        out[n] = high * 16 + low;
+        i += 2;
+        n += 1;
+    }
+    n
+}
+
+// Writes a number with its sign, by way of its four bytes.
+pub fn signed(z: i32) {
+    let mut b = [0u8; 4];
+    word::put_i32(&mut b, 0, z);
+    let MaybeU32::Is(n) = word::u32_at(&b, 0) else {
+        return;
+    };
+    if n < 0x8000_0000 {
+        io::print_decimal(STDOUT_FILENO, n as u64);
+        return;
+    }
+    io::write_all(STDOUT_FILENO, b"-");
+    io::print_decimal(STDOUT_FILENO, (0xffff_ffff - n) as u64 + 1);
+}
