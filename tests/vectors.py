@@ -11,9 +11,10 @@ rows = []
 
 
 def row(letter, given, answer):
-    """Adds a row, once."""
-    if (letter, given, answer) not in rows:
-        rows.append((letter, given, answer))
+    """Adds a row, once; what is given is bytes or numbers."""
+    shown = given.hex() if isinstance(given, bytes) else " ".join(map(str, given))
+    if (letter, shown, answer) not in rows:
+        rows.append((letter, shown, answer))
 
 
 # ## UTF-8: Unicode's table 3-7 as rows of lead bytes, second bytes and how many more follow
@@ -188,11 +189,59 @@ def record_rows():
         record(s)
 
 
+# ## The clock
+
+DAY = 86_400_000_000
+MINUTES = 1
+
+
+def reading(moment, at, tick):
+    row("t", (moment, at, tick), f"reliable {min(moment + max(tick - at, 0), TOP)}")
+
+
+def persisting(persisted, moment):
+    row("d", (persisted, moment), f"stored {moment}" if abs(persisted - moment) >= DAY else "not stored")
+
+
+def lowering(own, new):
+    """The clock takes a granularity one step lower, and minutes stay minutes; an equal setting is not kept."""
+    lowered = max(new - 1, MINUTES)
+    row("g", (own, new), f"{lowered}" if lowered == own else f"{lowered} changed kept")
+
+
+def loading(build, stored, fabric):
+    if fabric == 0:
+        row("l", (build, stored, fabric), "refused 7, reliable 5")
+    else:
+        row("l", (build, stored, fabric), f"last known {max(build, stored)}")
+
+
+def clock_rows():
+    for at in (0, 1, 1000, TOP - 1, TOP):
+        for tick in (0, 1, at - 1, at, at + 1, TOP):
+            for moment in (0, 1, TOP - 1, TOP):
+                if 0 <= tick <= TOP:
+                    reading(moment, at, tick)
+    for persisted in (0, 1, DAY, 2 * DAY, TOP - DAY, TOP):
+        for moment in (persisted - DAY - 1, persisted - DAY, persisted - DAY + 1, persisted, persisted + DAY - 1, persisted + DAY,
+                       persisted + DAY + 1, 0, TOP):
+            if 0 <= moment <= TOP:
+                persisting(persisted, moment)
+    for own in range(5):
+        for new in range(5):
+            lowering(own, new)
+    for build in (0, 10, TOP):
+        for stored in (0, 9, 10, 11, TOP):
+            for fabric in (0, 1, 255):
+                loading(build, stored, fabric)
+
+
 utf8_rows()
 zone_rows()
 window_rows()
 record_rows()
+clock_rows()
 where = pathlib.Path("crates/vectors")
-where.joinpath("stdin").write_text("".join(f"{letter} {given.hex()}\n" for letter, given, _ in rows))
-where.joinpath("stdout").write_text("".join(f"{letter} {given.hex()}: {answer}\n" for letter, given, answer in rows))
+where.joinpath("stdin").write_text("".join(f"{letter} {given}\n" for letter, given, _ in rows))
+where.joinpath("stdout").write_text("".join(f"{letter} {given}: {answer}\n" for letter, given, answer in rows))
 print(f"{len(rows)} rows")

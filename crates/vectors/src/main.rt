@@ -1,34 +1,51 @@
 // Runs the test vectors of standard input, a row to a line, and writes each row with its answer.
 mod bytes;
+mod clock;
 mod text;
 
 use libc::STDOUT_FILENO;
 
 // Answers what a letter asks about some bytes.
-fn ask(letter: u8, given: &[u8]) {
+fn ask_bytes(letter: u8, given: &[u8]) {
     if letter == b'u' {
         bytes::utf8(given);
     } else if letter == b'z' {
         bytes::zones(given);
     } else if letter == b'w' {
         bytes::windows(given);
-    } else if letter == b'r' {
-        bytes::record(given);
     } else {
-        io::write_all(STDOUT_FILENO, b"unknown");
+        bytes::record(given);
     }
 }
 
-// Answers one row: a letter for what is asked, a space, and bytes in hexadecimal digits.
+// Answers what a letter asks about the numbers of a row.
+fn ask_clock(letter: u8, row: &[u8]) {
+    if letter == b't' {
+        clock::reading(row);
+    } else if letter == b'd' {
+        clock::persisting(row);
+    } else if letter == b'g' {
+        clock::lowering(row);
+    } else {
+        clock::loading(row);
+    }
+}
+
+// Answers one row: a letter for what is asked, then decimal numbers for the clock's letters and bytes in hexadecimal digits for the others.
 fn answer(row: &[u8]) {
     io::write_all(STDOUT_FILENO, row);
     if row.len() < 2 {
         return;
     }
+    let letter = row[0];
+    io::write_all(STDOUT_FILENO, b": ");
+    if letter < b'r' || letter == b't' {
+        ask_clock(letter, row);
+        return;
+    }
     let mut given = io::buffer();
     let n = text::hex(&row[2..], &mut given);
-    io::write_all(STDOUT_FILENO, b": ");
-    ask(row[0], &given[..n]);
+    ask_bytes(letter, &given[..n]);
 }
 
 // Answers every row; an empty one only parts the table.

@@ -58,6 +58,47 @@ pub fn hex(s: &[u8], out: &mut [u8]) -> usize
     n
 }
 
+// The word that a byte belongs to, after the word before it.
+fn word_after(word: usize, b: u8) -> usize {
+    if b != b' ' {
+        return word;
+    }
+    if word < 9 {
+        return word + 1;
+    }
+    word
+}
+
+// A number with one more digit, held at the largest.
+fn with_digit(v: u64, b: u8) -> u64 {
+    let d = digit(b) as u64;
+    if v <= (0xffff_ffff_ffff_ffff - d) / 10 {
+        return v * 10 + d;
+    }
+    0xffff_ffff_ffff_ffff
+}
+
+// The same where the digit belongs to the number, else the number as it was.
+fn with_own(v: u64, b: u8, own: bool) -> u64 {
+    if own && b != b' ' {
+        return with_digit(v, b);
+    }
+    v
+}
+
+// Word k of a row as a decimal number; the first word is 0.
+pub fn number(s: &[u8], k: usize) -> u64 {
+    let mut word: usize = 0;
+    let mut v: u64 = 0;
+    let mut i: usize = 0;
+    while i < s.len() {
+        word = word_after(word, s[i]);
+        v = with_own(v, s[i], word == k);
+        i += 1;
+    }
+    v
+}
+
 // Writes a number with its sign, by way of its four bytes.
 pub fn signed(z: i32) {
     let mut b = [0u8; 4];
