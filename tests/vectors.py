@@ -4,6 +4,7 @@
 The answers come from readers of their own, written here and resting on Python's strict UTF-8
 decoder, never from a run of the port. Usage: tests/vectors.py, at the root of the repository."""
 import pathlib
+import random
 import struct
 
 TOP = 2**64 - 1
@@ -11,8 +12,9 @@ rows = []
 
 
 def row(letter, given, answer):
-    """Adds a row, once; what is given is bytes or numbers."""
-    shown = given.hex() if isinstance(given, bytes) else " ".join(map(str, given))
+    """Adds a row, once; what is given is bytes, or numbers and bytes."""
+    parts = given if isinstance(given, tuple) else (given,)
+    shown = " ".join(part.hex() if isinstance(part, bytes) else str(part) for part in parts)
     if (letter, shown, answer) not in rows:
         rows.append((letter, shown, answer))
 
@@ -236,11 +238,145 @@ def clock_rows():
                 loading(build, stored, fabric)
 
 
+# ## Histories: a store of its own
+
+SET_TIME_ZONE, SET_DST_OFFSET, LOAD, LOAD_NONE, FACTORY_RESET = range(5)
+
+
+def entries(read, s, at):
+    """The entries of a section as numbers and bytes, and the place after it; None where it is unreadable."""
+    found = read_section(read, s, at)
+    if found is None:
+        return None
+    values, place = [], at + 1
+    for _ in range(s[at]):
+        offset, start = struct.unpack("<iQ", s[place:place + 12])
+        end = read(s, place)[1]
+        values.append((offset, start, s[place + 13:end] if s[place + 12] else None))
+        place = end
+    return values, place
+
+
+def zones_refused(zone_list, limit):
+    before = None
+    for index, (offset, start, name) in enumerate(zone_list):
+        if index == limit:
+            return True
+        if (index == 0) != (start == 0) or (before is not None and start <= before):
+            return True
+        if not -43200 <= offset <= 50400 or (name is not None and len(name) - 1 > 64):
+            return True
+        before = start
+    return False
+
+
+def ends(window_list):
+    return [None if end is None else struct.unpack("<Q", end)[0] for _, _, end in window_list]
+
+
+def windows_refused(window_list, limit):
+    starts, tails = [start for _, start, _ in window_list], ends(window_list)
+    for index, start in enumerate(starts):
+        if index == limit or (tails[index] is not None and tails[index] <= start):
+            return True
+        if index and (tails[index - 1] is None or start <= starts[index - 1] or start < tails[index - 1]):
+            return True
+    return False
+
+
+def after(lists, limits, kind, given):
+    """Both lists after a call."""
+    if kind == FACTORY_RESET:
+        return [], []
+    if kind == LOAD_NONE:
+        return lists
+    first = entries(read_window if kind == SET_DST_OFFSET else read_zone, given, 0)
+    if first is None or (kind != LOAD and first[1] != len(given)):
+        return lists
+    if kind == SET_TIME_ZONE:
+        return lists if zones_refused(first[0], limits[0]) else (first[0], [])
+    if kind == SET_DST_OFFSET:
+        return lists[0], [] if windows_refused(first[0], limits[1]) else first[0]
+    second = entries(read_window, given, first[1])
+    if second is None or second[1] != len(given) or zones_refused(first[0], limits[0]) or windows_refused(second[0], limits[1]):
+        return lists
+    return first[0], second[0]
+
+
+def walked(lists, start):
+    """The steps and the moments: the starting one, then each different later start or end."""
+    bounds = [s for _, s, _ in lists[0]] + [s for _, s, _ in lists[1]] + [e for e in ends(lists[1]) if e is not None]
+    later = sorted({bound for bound in bounds if bound > start})
+    return f"{len(later)} steps: " + " ".join(map(str, [start] + later))
+
+
+def written(calls):
+    return b"".join(bytes([kind]) + (struct.pack("<I", len(given)) + given if kind <= LOAD else b"") for kind, given in calls)
+
+
+def history(limits, start, calls, damage=b""):
+    """A run of calls; what is added as damage is no call."""
+    given = (*limits, start, written(calls) + damage)
+    if not (1 <= limits[0] <= 8 and 1 <= limits[1] <= 16):
+        row("h", given, "refused 8")
+    elif damage:
+        row("h", given, "refused 1")
+    else:
+        lists = ([], [])
+        for kind, argument in calls:
+            lists = after(lists, limits, kind, argument)
+        row("h", given, walked(lists, start))
+
+
+def some_zones(source, most):
+    count, start, made = source.randrange(most + 2), 0, []
+    for _ in range(count):
+        made.append(zone(source.choice([-43201, -43200, 0, 3600, 50400]), start, source.choice([None, b"", b"CET"])))
+        start += source.choice([0, 1, 1, 5, 10])
+    return section(made)
+
+
+def some_windows(source, most):
+    count, start, made = source.randrange(most + 2), source.randrange(5), []
+    for _ in range(count):
+        end = start + source.choice([0, 1, 1, 7])
+        made.append(window(3600, start, source.choice([end, end, end, None])))
+        start = end + source.choice([-1, 0, 0, 3])
+        start = max(start, 0)
+    return section(made)
+
+
+def some_call(source, limits):
+    kind = source.choice([SET_TIME_ZONE, SET_TIME_ZONE, SET_DST_OFFSET, SET_DST_OFFSET, LOAD, LOAD_NONE, FACTORY_RESET])
+    given = {SET_TIME_ZONE: lambda: some_zones(source, limits[0]), SET_DST_OFFSET: lambda: some_windows(source, limits[1]),
+             LOAD: lambda: some_zones(source, limits[0]) + some_windows(source, limits[1])}.get(kind, bytes)()
+    if given and source.randrange(8) == 0:
+        given = given[:-1]
+    return kind, given
+
+
+def history_rows():
+    full = [(SET_TIME_ZONE, section([zone(0, start) for start in range(8)])),
+            (SET_DST_OFFSET, section([window(0, 8 + 2 * k, 9 + 2 * k) for k in range(16)]))]
+    for limits in ((8, 16), (7, 16), (8, 15), (0, 1), (9, 1), (1, 0), (1, 17)):
+        history(limits, 0, full)
+    history((8, 16), TOP, full)
+    history((1, 1), 0, [], b"\5")
+    history((1, 1), 0, [(FACTORY_RESET, b"")], b"\0\1\0\0\0")
+    history((2, 2), 0, [(SET_DST_OFFSET, section([window(0, 1, 2)])), (SET_DST_OFFSET, section([window(0, 2, 2)]))])
+    history((2, 2), 0, [(SET_DST_OFFSET, section([window(0, 1, 2)])), (SET_DST_OFFSET, b"")])
+    source = random.Random(1)
+    for _ in range(120):
+        limits = (source.choice([1, 2, 3]), source.choice([1, 2, 3]))
+        history(limits, source.choice([0, 1, 3, 9]), [some_call(source, limits) for _ in range(source.randrange(6))])
+
+
 utf8_rows()
 zone_rows()
 window_rows()
 record_rows()
 clock_rows()
+history_rows()
 where = pathlib.Path("crates/vectors")
 where.joinpath("stdin").write_text("".join(f"{letter} {given}\n" for letter, given, _ in rows))
 where.joinpath("stdout").write_text("".join(f"{letter} {given}: {answer}\n" for letter, given, answer in rows))

@@ -4,7 +4,6 @@ pub mod read;
 pub mod write;
 
 ghost use mathlib.Core.Path.{_≡_};
-ghost use Prim.Native.Nat.{min};
 use model::MaybeU64;
 
 // A time zone as it is stored: the first `name_len` bytes of `name` are its name, where it has one.
@@ -65,11 +64,4 @@ pub enum RecordRead {
 pub struct Record {
     pub bytes: [u8; 962],
     pub length: usize,
-}
-
-// The smaller of two numbers.
-fn least(a: usize, b: usize) -> usize
-    ensures { λ r. ⌜ r ≡ min a b ⌝ }
-{
-    if a < b { a } else { b }
 }

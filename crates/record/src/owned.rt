@@ -1,10 +1,23 @@
 // Copies a zone that was read, with its name.
 ghost use mathlib.Core.Path.{_≡_};
 ghost use lib.ListN.{take};
-ghost use Rattle.record.specs.Data.{padded, zoneOwned, zoneNamed};
+ghost use Rattle.record.specs.Data.{padded, blankZone, zoneOwned, zoneNamed};
 use crate::NamePlace;
 use crate::TimeZoneOwned;
-use crate::least;
+use word::least;
+
+// A zone in a place that is not used.
+pub fn blank_zone() -> TimeZoneOwned
+    ensures { λ r. ⌜ r ≡ blankZone ⌝ }
+{
+    TimeZoneOwned {
+        offset: 0,
+        valid_at: 0,
+        named: false,
+        name_len: 0,
+        name: [0u8; 64],
+    }
+}
 
 // The first n bytes of a part, at most 64, and zeros after them.
 fn name_bytes(part: &[u8], n: usize) -> [u8; 64]

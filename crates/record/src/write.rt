@@ -10,8 +10,8 @@ use crate::DSTOffsetEntry;
 use crate::Record;
 use crate::TimeZoneOwned;
 use crate::TimeZoneStoreData;
-use crate::least;
 use model::MaybeU64;
+use word::least;
 
 // Copies the first n bytes of a name to `at`.
 fn put_name(out: &mut [u8], at: usize, name: &[u8], n: usize)

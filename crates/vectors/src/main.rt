@@ -1,6 +1,7 @@
 // Runs the test vectors of standard input, a row to a line, and writes each row with its answer.
 mod bytes;
 mod clock;
+mod store;
 mod text;
 
 use libc::STDOUT_FILENO;
@@ -31,6 +32,18 @@ fn ask_clock(letter: u8, row: &[u8]) {
     }
 }
 
+// Answers a row whose first letter asks about bytes, which are its word k in hexadecimal digits.
+fn answer_bytes(letter: u8, row: &[u8], k: usize) {
+    let mut given = io::buffer();
+    let at = text::word_start(row, k);
+    let n = text::hex(&row[at..], &mut given);
+    if letter == b'h' {
+        store::replayed(row, &given[..n]);
+    } else {
+        ask_bytes(letter, &given[..n]);
+    }
+}
+
 // Answers one row: a letter for what is asked, then decimal numbers for the clock's letters and bytes in hexadecimal digits for the others.
 fn answer(row: &[u8]) {
     io::write_all(STDOUT_FILENO, row);
@@ -39,13 +52,13 @@ fn answer(row: &[u8]) {
     }
     let letter = row[0];
     io::write_all(STDOUT_FILENO, b": ");
-    if letter < b'r' || letter == b't' {
+    if letter == b'h' {
+        answer_bytes(letter, row, 4);
+    } else if letter < b'r' || letter == b't' {
         ask_clock(letter, row);
-        return;
+    } else {
+        answer_bytes(letter, row, 1);
     }
-    let mut given = io::buffer();
-    let n = text::hex(&row[2..], &mut given);
-    ask_bytes(letter, &given[..n]);
 }
 
 // Answers every row; an empty one only parts the table.

@@ -86,6 +86,22 @@ fn with_own(v: u64, b: u8, own: bool) -> u64 {
     v
 }
 
+// Where word k of a row starts; its end where the row has no such word.
+pub fn word_start(s: &[u8], k: usize) -> usize
+    ensures { λ r. ⌜ r ≤ length (now (s .entry)) ⌝ }
+{
+    let mut word: usize = 0;
+    let mut i: usize = 0;
+    while i < s.len() {
+        if word == k {
+            return i;
+        }
+        word = word_after(word, s[i]);
+        i += 1;
+    }
+    i
+}
+
 // Word k of a row as a decimal number; the first word is 0.
 pub fn number(s: &[u8], k: usize) -> u64 {
     let mut word: usize = 0;

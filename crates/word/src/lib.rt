@@ -3,7 +3,7 @@
 pub mod text;
 
 ghost use mathlib.Core.Path.{_≡_};
-ghost use Prim.Native.Nat.{_+_, _≤_, _^_, _<_};
+ghost use Prim.Native.Nat.{_+_, _≤_, _^_, _<_, min};
 ghost use lib.ListN.{length, take, drop};
 ghost use Rattle.model.specs.Bytes.{number, bytes, bitsOf, signed};
 ghost use Rattle.model.specs.Maybe.{maybeU64, maybeI32};
@@ -141,4 +141,11 @@ pub fn put_i32(out: &mut [u8], at: usize, z: i32) -> bool
     ensures { λ r. ⌜ (r ≡ fitsAt (now (out .entry)) at 4) × (now (out .exit) ≡ placed (now (out .entry)) at (bytes 4 (bitsOf z))) ⌝ }
 {
     put_u32(out, at, to_bits(z))
+}
+
+// The smaller of two numbers.
+pub fn least(a: usize, b: usize) -> usize
+    ensures { λ r. ⌜ r ≡ min a b ⌝ }
+{
+    if a < b { a } else { b }
 }

@@ -1,0 +1,4 @@
+-- What the contracts of `lookups` cite.
+pub mod Transitions
+pub mod Shown
+pub mod Laws

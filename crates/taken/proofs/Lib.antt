@@ -1,0 +1,4 @@
+pub mod Copies
+pub mod Found
+pub mod Requests
+pub mod Whole

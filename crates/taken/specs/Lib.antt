@@ -1,0 +1,2 @@
+-- What the contracts of `taken` cite.
+pub mod ByValue
