@@ -257,31 +257,35 @@ def entries(read, s, at):
     return values, place
 
 
-def zones_refused(zone_list, limit):
+def zones_answer(zone_list, limit):
+    """The number that SetTimeZone answers: 0, 2 or 3."""
     before = None
     for index, (offset, start, name) in enumerate(zone_list):
         if index == limit:
-            return True
+            return 3
         if (index == 0) != (start == 0) or (before is not None and start <= before):
-            return True
+            return 2
         if not -43200 <= offset <= 50400 or (name is not None and len(name) - 1 > 64):
-            return True
+            return 2
         before = start
-    return False
+    return 0
 
 
 def ends(window_list):
     return [None if end is None else struct.unpack("<Q", end)[0] for _, _, end in window_list]
 
 
-def windows_refused(window_list, limit):
+def windows_answer(window_list, limit):
+    """The number that SetDSTOffset answers: 0, 2 or 3."""
     starts, tails = [start for _, start, _ in window_list], ends(window_list)
     for index, start in enumerate(starts):
-        if index == limit or (tails[index] is not None and tails[index] <= start):
-            return True
+        if index == limit:
+            return 3
+        if tails[index] is not None and tails[index] <= start:
+            return 2
         if index and (tails[index - 1] is None or start <= starts[index - 1] or start < tails[index - 1]):
-            return True
-    return False
+            return 2
+    return 0
 
 
 def after(lists, limits, kind, given):
@@ -294,11 +298,11 @@ def after(lists, limits, kind, given):
     if first is None or (kind != LOAD and first[1] != len(given)):
         return lists
     if kind == SET_TIME_ZONE:
-        return lists if zones_refused(first[0], limits[0]) else (first[0], [])
+        return lists if zones_answer(first[0], limits[0]) else (first[0], [])
     if kind == SET_DST_OFFSET:
-        return lists[0], [] if windows_refused(first[0], limits[1]) else first[0]
+        return lists[0], [] if windows_answer(first[0], limits[1]) else first[0]
     second = entries(read_window, given, first[1])
-    if second is None or second[1] != len(given) or zones_refused(first[0], limits[0]) or windows_refused(second[0], limits[1]):
+    if second is None or second[1] != len(given) or zones_answer(first[0], limits[0]) or windows_answer(second[0], limits[1]):
         return lists
     return first[0], second[0]
 
@@ -371,12 +375,89 @@ def history_rows():
         history(limits, source.choice([0, 1, 3, 9]), [some_call(source, limits) for _ in range(source.randrange(6))])
 
 
+# ## Scripts on a device: a new clock, and a list store of limits 2 and 2
+
+HOUR = 3600
+
+
+class Device:
+    def __init__(self):
+        self.clock, self.lists, self.bytes, self.answers = None, ([], []), b"", []
+
+    def utc(self, moment, granularity, tick):
+        """SetUTCTime; an equal setting leaves the clock as it runs."""
+        self.bytes += b"U" + struct.pack("<QBQ", moment, granularity, tick)
+        if granularity > 4:
+            self.answers.append(1)
+            return self
+        setting = (moment, max(granularity - 1, MINUTES))
+        if self.clock is None or self.clock[0] != setting:
+            self.clock = (setting, tick)
+        self.answers.append(0)
+        return self
+
+    def zones(self, *made):
+        given = section([zone(*one) for one in made])
+        self.bytes += b"Z" + struct.pack("<I", len(given)) + given
+        self.answers.append(zones_answer(entries(read_zone, given, 0)[0], 2))
+        self.lists = after(self.lists, (2, 2), SET_TIME_ZONE, given)
+        return self
+
+    def windows(self, *made):
+        given = section([window(*one) for one in made])
+        self.bytes += b"D" + struct.pack("<I", len(given)) + given
+        self.answers.append(windows_answer(entries(read_window, given, 0)[0], 2))
+        self.lists = after(self.lists, (2, 2), SET_DST_OFFSET, given)
+        return self
+
+    def local(self, tick):
+        self.bytes += b"L" + struct.pack("<Q", tick)
+        self.answers.append(self.local_time(tick))
+        return self
+
+    def local_time(self, tick):
+        if self.clock is None:
+            return "null"
+        now = min(self.clock[0][0] + max(tick - self.clock[1], 0), TOP)
+        spans = [(offset, start, end) for (offset, start, _), end in zip(self.lists[1], ends(self.lists[1]))]
+        if not any(end is None or now < end for _, _, end in spans):
+            return "null"
+        zone_offset = [offset for offset, start, _ in self.lists[0] if start <= now][-1:] or [0]
+        window_offset = [offset for offset, start, end in spans if start <= now and (end is None or now < end)][-1:] or [0]
+        return min(max(now + (zone_offset[0] + window_offset[0]) * 1_000_000, 0), TOP)
+
+    def row(self):
+        row("x", self.bytes, "".join(f" {answer}" for answer in self.answers))
+
+
+def script_rows():
+    now = 800_000_000_000_000
+    later = now + HOUR * 1_000_000
+    # steps of TC_TIMESYNC_2_5, as they are publicly known: too many, out of order, overlapping, after an open one, and good lists
+    device = Device().utc(now, 3, 0).zones((0, 0))
+    device.windows((HOUR, 0, 1), (HOUR, 2, 3), (HOUR, 4, 5)).local(0)
+    device.windows((HOUR, later, later + 1), (HOUR, now, now + 1)).windows((HOUR, now, later), (0, now + 1, later + 1))
+    device.windows((HOUR, now), (HOUR, later)).windows((HOUR, later, now)).windows().local(0)
+    device.windows((HOUR, 0, later), (0, later)).local(0).windows((-HOUR, 0)).local(0).row()
+    # steps of TC_TIMESYNC_2_8, as they are publicly known: LocalTime with a zone, inside a window, before one, and after it ran out
+    device = Device().local(0).utc(now, 3, 0).local(0).zones((2 * HOUR, 0)).local(0).windows((HOUR, 0)).local(0)
+    device.windows((HOUR, later)).local(0).windows((HOUR, later, later + 1)).local(HOUR * 1_000_000 - 1).local(HOUR * 1_000_000)
+    device.local(HOUR * 1_000_000 + 1).zones((0, 0), (-HOUR, later)).windows((0, 0)).local(0).local(HOUR * 1_000_000).row()
+    # steps of TestTimeSynchronization, as they are publicly known: a granularity that is none, and a setting that is read back
+    Device().utc(now, 5, 0).windows((0, 0)).local(0).utc(now, 2, 0).local(0).utc(now, 2, 9).local(9).utc(now + 1, 4, 9).local(10).row()
+    # held at both ends
+    Device().utc(0, 3, 0).zones((-12 * HOUR, 0)).windows((0, 0)).local(0).local(12 * HOUR * 1_000_000 + 1).row()
+    Device().utc(TOP, 3, 0).zones((14 * HOUR, 0)).windows((2**31 - 1, 0)).local(0).row()
+    Device().utc(TOP - 1, 3, 0).windows((-2**31, 0)).local(0).local(9).row()
+
+
 utf8_rows()
 zone_rows()
 window_rows()
 record_rows()
 clock_rows()
 history_rows()
+script_rows()
 where = pathlib.Path("crates/vectors")
 where.joinpath("stdin").write_text("".join(f"{letter} {given}\n" for letter, given, _ in rows))
 where.joinpath("stdout").write_text("".join(f"{letter} {given}: {answer}\n" for letter, given, answer in rows))

@@ -1,6 +1,7 @@
 // Runs the test vectors of standard input, a row to a line, and writes each row with its answer.
 mod bytes;
 mod clock;
+mod device;
 mod store;
 mod text;
 
@@ -14,6 +15,8 @@ fn ask_bytes(letter: u8, given: &[u8]) {
         bytes::zones(given);
     } else if letter == b'w' {
         bytes::windows(given);
+    } else if letter == b'x' {
+        device::script(given);
     } else {
         bytes::record(given);
     }

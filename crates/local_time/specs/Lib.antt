@@ -1,0 +1,3 @@
+-- What a local time stands for, and what holds of it.
+pub mod Meaning
+pub mod Laws

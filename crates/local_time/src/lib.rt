@@ -1,0 +1,122 @@
+// Local time: UTC and the offsets of the active zone and of the last active window.
+ghost use mathlib.Core.Bool.{cond};
+ghost use mathlib.Core.Option.{none, some};
+ghost use mathlib.Core.Path.{_≡_};
+ghost use lib.IntN.{pos, _+ℤ_, _*ℤ_};
+ghost use Rattle.model.specs.Answers.{answers};
+ghost use Rattle.model.specs.Clock.{reliable};
+ghost use Rattle.model.specs.Lookups.{activeZone, lastActiveWindow, offsetOf, usable};
+ghost use Rattle.model.specs.LocalTime.{held, orZero, shown, localMoment, localTime};
+ghost use Rattle.model.specs.Maybe.{optionI32};
+ghost use Rattle.record.specs.Data.{listsOf};
+ghost use Rattle.rtc.specs.Meaning.{readingOf};
+ghost use Rattle.local_time.specs.Meaning.{localTimeOf};
+use lookups::windows::dst_usable;
+use lookups::windows::last_active_dst_offset;
+use lookups::zones::active_time_zone;
+use model::MaybeI32;
+use record::TimeZoneStoreData;
+use rtc::UtcTime;
+
+// Null, the refusal AttributeNotFound, or a moment.
+pub enum LocalTime {
+    Null,
+    NotFound,
+    At(u64),
+}
+
+// An offset, 0 where there is none.
+fn or_zero(offset: MaybeI32) -> i32
+    ensures { λ r. ⌜ r ≡ orZero (optionI32 offset) ⌝ }
+{
+    match offset {
+        MaybeI32::Nothing => 0,
+        MaybeI32::Is(seconds) => seconds,
+    }
+}
+
+// The sum of two offsets in seconds, as microseconds.
+fn micros(zone: i32, window: i32) -> i64
+    ensures { λ r. ⌜ r ≡ (zone +ℤ window) *ℤ pos 1000000 ⌝ }
+{
+    (zone as i64 + window as i64) * 1_000_000
+}
+
+// A moment moved by a signed number, held at 0 and at the largest number.
+fn moved(utc: u64, by: i64) -> u64
+    ensures { λ r. ⌜ r ≡ held (pos utc +ℤ by) ⌝ }
+{
+    if 0 <= by {
+        let up = by as u64;
+        if up <= 0xffff_ffff_ffff_ffff - utc {
+            utc + up
+        } else {
+            0xffff_ffff_ffff_ffff
+        }
+    } else {
+        // `by` is -(down + 1), and -1 - by never overflows
+        let down = (-1 - by) as u64;
+        if down < utc { utc - down - 1 } else { 0 }
+    }
+}
+
+// The offset of the active zone.
+fn zone_offset(lists: TimeZoneStoreData, utc: u64) -> i32
+    ensures { λ r. ⌜ r ≡ activeZone (listsOf lists) utc .offset ⌝ }
+{
+    let zone = active_time_zone(lists, utc);
+    zone.offset
+}
+
+// The offset of the last active window, 0 where none is active.
+fn window_offset(lists: TimeZoneStoreData, utc: u64) -> i32
+    ensures { λ r. ⌜ r ≡ orZero (offsetOf (lastActiveWindow (listsOf lists) utc)) ⌝ }
+{
+    or_zero(last_active_dst_offset(lists, utc))
+}
+
+// UTC moved by both offsets.
+fn shown_at(lists: TimeZoneStoreData, utc: u64) -> u64
+    ensures { λ r. ⌜ r ≡ shown (listsOf lists) utc ⌝ }
+{
+    let zone = zone_offset(lists, utc);
+    let window = window_offset(lists, utc);
+    moved(utc, micros(zone, window))
+}
+
+// Whether a moment is shown: some window is usable, active or not.
+fn is_shown(lists: TimeZoneStoreData, utc: u64) -> bool
+    ensures { λ r. ⌜ r ≡ usable (listsOf lists) utc ⌝ }
+{
+    dst_usable(lists, utc)
+}
+
+// What the lists show: null where no window is usable.
+fn in_lists(lists: TimeZoneStoreData, utc: u64) -> LocalTime
+    ensures { λ r. ⌜ localTimeOf r ≡ answers (localMoment (listsOf lists) utc) ⌝ }
+{
+    if is_shown(lists, utc) {
+        return LocalTime::At(shown_at(lists, utc));
+    }
+    LocalTime::Null
+}
+
+// Local time at a reliable moment.
+fn at_moment(utc: u64, there: bool, lists: TimeZoneStoreData) -> LocalTime
+    ensures { λ r. ⌜ localTimeOf r ≡ localTime (reliable utc) (cond there (some (listsOf lists)) none) ⌝ }
+{
+    if there {
+        return in_lists(lists, utc);
+    }
+    LocalTime::NotFound
+}
+
+// Local time at a reading of the clock; `there` says whether there is a list store.
+pub fn local_time(reading: UtcTime, there: bool, lists: TimeZoneStoreData) -> LocalTime
+    ensures { λ r. ⌜ localTimeOf r ≡ localTime (readingOf reading) (cond there (some (listsOf lists)) none) ⌝ }
+{
+    match reading {
+        UtcTime::LastKnown(_) => LocalTime::Null,
+        UtcTime::Reliable(utc) => at_moment(utc, there, lists),
+    }
+}

@@ -1,0 +1,4 @@
+pub mod Same
+pub mod Again
+pub mod Edges
+pub mod Sleeps

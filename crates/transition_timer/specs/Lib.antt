@@ -1,0 +1,3 @@
+-- What the contracts of `transition_timer` cite, and what holds of the timer.
+pub mod Meaning
+pub mod Laws
