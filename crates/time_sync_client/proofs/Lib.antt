@@ -1,0 +1,4 @@
+pub mod Emitted
+pub mod Back
+pub mod Waits
+pub mod Events
