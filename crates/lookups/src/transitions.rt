@@ -1,86 +1,98 @@
 // The next transition, and the walk from one to the next.
 ghost use mathlib.Core.Path.{_≡_};
+ghost use mathlib.Core.List.{map};
+ghost use Prim.Native.Nat.{_≤_};
+ghost use lib.ListN.{take, drop};
 ghost use Rattle.model.specs.Lookups.{nextTransition, zoneStarts, windowBounds};
 ghost use Rattle.model.specs.Maybe.{maybeU64};
 ghost use Rattle.model.specs.Walk as W;
-ghost use Rattle.record.specs.Data.{zonesOf, windowsOf, listsOf};
-ghost use Rattle.lookups.specs.Transitions.{after, endAfter, sooner, soonest, walkOwned};
+ghost use Rattle.record.specs.Data.{windowOf, zonesOf, windowsOf, listsOf};
+ghost use Rattle.lookups.specs.Transitions.{endOrZero, sooner, soonest, momentOf, walkOwned};
 use crate::Walk;
 use model::MaybeU64;
 use record::TimeZoneStoreData;
 use word::least;
 
-// A moment, if it is after now.
-fn moment_after(now: u64, t: u64) -> MaybeU64
-    ensures { λ r. ⌜ r ≡ after now t ⌝ }
-{
-    if now < t {
-        MaybeU64::Is(t)
-    } else {
-        MaybeU64::Nothing
-    }
-}
-
-// An end, if there is one after now.
-fn end_after(now: u64, end: MaybeU64) -> MaybeU64
-    ensures { λ r. ⌜ r ≡ endAfter now end ⌝ }
+// An end, or 0 where there is none: 0 is after no moment.
+fn end_or_zero(end: MaybeU64) -> u64
+    ensures { λ r. ⌜ r ≡ endOrZero end ⌝ }
 {
     match end {
-        MaybeU64::Nothing => MaybeU64::Nothing,
-        MaybeU64::Is(e) => moment_after(now, e),
+        MaybeU64::Nothing => 0,
+        MaybeU64::Is(e) => e,
     }
 }
 
-// The sooner of two moments; a missing one is later than any.
-fn sooner_of(a: MaybeU64, b: MaybeU64) -> MaybeU64
-    ensures { λ r. ⌜ r ≡ sooner a b ⌝ }
+// The sooner of the best so far, 0 for none, and a moment, if that is after now.
+fn sooner_of(now: u64, best: u64, t: u64) -> u64
+    ensures { λ r. ⌜ r ≡ sooner now best t ⌝ }
 {
-    match a {
-        MaybeU64::Nothing => b,
-        MaybeU64::Is(t) => match b {
-            MaybeU64::Nothing => a,
-            MaybeU64::Is(u) => if t < u { a } else { b },
-        },
+    if t <= now {
+        return best;
     }
+    if best == 0 {
+        return t;
+    }
+    if t < best { t } else { best }
 }
 
-// The soonest start of a zone after now.
-fn zone_transition(d: TimeZoneStoreData, now: u64) -> MaybeU64
-    ensures { λ r. ⌜ r ≡ soonest now (zoneStarts (zonesOf d)) ⌝ }
+// The soonest start of a zone after now, 0 for none.
+fn zone_transition(d: TimeZoneStoreData, now: u64) -> u64
+    ensures { λ r. ⌜ r ≡ soonest now 0 (zoneStarts (zonesOf d)) ⌝ }
 {
     let n = least(d.time_zone_count, 8);
-    let mut best = MaybeU64::Nothing;
+    let mut best: u64 = 0;
     let mut i: usize = 0;
     while i < n {
         let z = d.time_zone[i];
-        best = sooner_of(best, moment_after(now, z.valid_at));
+        best = sooner_of(now, best, z.valid_at);
         i += 1;
     }
     best
 }
 
-// The soonest start or end of a window after now.
-fn window_transition(d: TimeZoneStoreData, now: u64) -> MaybeU64
-    ensures { λ r. ⌜ r ≡ soonest now (windowBounds (windowsOf d)) ⌝ }
+// The sooner of the best so far and the starts and ends after now of some of the windows.
+fn windows_between(d: TimeZoneStoreData, now: u64, sofar: u64, from: usize, to: usize) -> u64
+    requires { ⌜ to ≤ 16 ⌝ }
+    ensures { λ r. ⌜ r ≡ soonest now sofar (windowBounds (map windowOf (drop from (take to (d .«dst_offset»))))) ⌝ }
 {
-    let n = least(d.dst_offset_count, 16);
-    let mut best = MaybeU64::Nothing;
-    let mut i: usize = 0;
-    while i < n {
+    let mut best = sofar;
+    let mut i = from;
+    while i < to {
         let w = d.dst_offset[i];
         let end = w.valid_until;
-        best = sooner_of(best, moment_after(now, w.valid_starting));
-        best = sooner_of(best, end_after(now, end));
+        best = sooner_of(now, best, w.valid_starting);
+        best = sooner_of(now, best, end_or_zero(end));
         i += 1;
     }
     best
+}
+
+// The same of all windows, in two halves: a loop of at most 8 turns is unrolled, and then the lists are not copied.
+fn window_transition(d: TimeZoneStoreData, now: u64, sofar: u64) -> u64
+    ensures { λ r. ⌜ r ≡ soonest now sofar (windowBounds (windowsOf d)) ⌝ }
+{
+    let n = least(d.dst_offset_count, 16);
+    let half = windows_between(d, now, sofar, 0, least(n, 8));
+    windows_between(d, now, half, 8, n)
+}
+
+// A moment that was found, or none for 0.
+fn moment_of(t: u64) -> MaybeU64
+    ensures { λ r. ⌜ r ≡ momentOf t ⌝ }
+{
+    if t == 0 {
+        MaybeU64::Nothing
+    } else {
+        MaybeU64::Is(t)
+    }
 }
 
 // The soonest start or end after now.
 pub fn next_transition(d: TimeZoneStoreData, now: u64) -> MaybeU64
     ensures { λ r. ⌜ r ≡ maybeU64 (nextTransition (listsOf d) now) ⌝ }
 {
-    sooner_of(zone_transition(d, now), window_transition(d, now))
+    moment_of(window_transition(d, now, zone_transition(d, now)))
 }
 
 // From a moment on to the next transition, until there is none.
