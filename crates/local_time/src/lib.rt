@@ -60,6 +60,13 @@ fn moved(utc: u64, by: i64) -> u64
     }
 }
 
+// A moment moved by a zone's offset and by a window's, where there is one.
+pub fn shown_by(utc: u64, zone: i32, window: MaybeI32) -> u64
+    ensures { λ r. ⌜ r ≡ held (pos utc +ℤ ((zone +ℤ orZero (optionI32 window)) *ℤ pos 1000000)) ⌝ }
+{
+    moved(utc, micros(zone, or_zero(window)))
+}
+
 // The offset of the active zone.
 fn zone_offset(lists: TimeZoneStoreData, utc: u64) -> i32
     ensures { λ r. ⌜ r ≡ activeZone (listsOf lists) utc .offset ⌝ }

@@ -11,6 +11,7 @@ pub mod Walk
 pub mod History
 pub mod Store
 pub mod Output
+pub mod Codes
 pub mod Clock
 pub mod LocalTime
 pub mod Handler

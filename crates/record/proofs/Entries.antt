@@ -18,7 +18,7 @@ use Rattle.model.proofs.Words.{length-bytes}
 use Rattle.record.specs.declared.TimeZoneOwned.{TimeZoneOwned}
 use Rattle.record.specs.declared.DSTOffsetEntry.{DSTOffsetEntry}
 use Rattle.record.specs.Data.{nameOf, zoneOf, windowOf}
-use Rattle.record.specs.Written.{headBytes}
+use Rattle.record.specs.Written.{headBytes, zoneLength, untilLength, windowLength}
 
 -- the head and what follows the mark
 with-mark : (o t : List ℕ) (m : ℕ) (more : List ℕ) → o ++ (t ++ (m ∷ more)) ≡ (o ++ (t ++ (m ∷ []))) ++ more
@@ -63,3 +63,45 @@ take-min n l =
 pub length-head : (o : ℕ) (t m : ℕ) → length (bytes 4 o ++ (bytes 8 t ++ (m ∷ []))) ≡ 13
 length-head o t m =
     omega (arith, length-append (bytes 4 o) (bytes 8 t ++ (m ∷ [])), length-append (bytes 8 t) (m ∷ []), length-bytes 4 o, length-bytes 8 t)
+
+-- ## How many bytes they are
+
+module _ (w : DSTOffsetEntry) where
+  pub window-room : (13 ≤ windowLength w) × (windowLength w ≤ 21)
+  window-room = go (w .«valid_until»)
+    where
+      go : (u : MaybeU64) → (13 ≤ untilLength u) × (untilLength u ≤ 21)
+      go MaybeU64.Nothing = (omega arith, omega arith)
+      go (MaybeU64.Is e) = (omega arith, omega arith)
+
+  pub open-length : w .«valid_until» ≡ MaybeU64.Nothing → (13 ≡ windowLength w) × (13 ≡ length (windowBytes (windowOf w)))
+  open-length e =
+      let l = length-head (bitsOf (w .offset)) (w .«valid_starting») 0 in
+      (sym (ap untilLength e), omega (arith, ap length (open-bytes w e)))
+
+  pub ended-length : (e : ℕ) → w .«valid_until» ≡ MaybeU64.Is e → (21 ≡ windowLength w) × (21 ≡ length (windowBytes (windowOf w)))
+  ended-length e q =
+      let l = length-head (bitsOf (w .offset)) (w .«valid_starting») 1 in
+      (sym (ap untilLength q), omega (arith, ap length (ended-bytes w e q), length-append (windowHead w 1) (bytes 8 e), length-bytes 8 e))
+
+module _ (z : TimeZoneOwned) where
+  pub zone-room : (13 ≤ zoneLength z) × (zoneLength z ≤ 78)
+  zone-room = go (z .named)
+    where
+      go : (b : Bool) → (13 ≤ cond b (14 + min (z .«name_len») 64) 13) × (cond b (14 + min (z .«name_len») 64) 13 ≤ 78)
+      go true = (omega arith, omega arith)
+      go false = (omega arith, omega arith)
+
+  pub unnamed-length : z .named ≡ false → (13 ≡ zoneLength z) × (13 ≡ length (zoneBytes (zoneOf z)))
+  unnamed-length e =
+      let l = length-head (bitsOf (z .offset)) (z .«valid_at») 0 in
+      (sym (ap (λ (b : Bool). cond b (14 + min (z .«name_len») 64) 13) e), omega (arith, ap length (unnamed-bytes z e)))
+
+  pub named-room : z .named ≡ true → 14 + min (z .«name_len») 64 ≡ zoneLength z
+  named-room e = sym (ap (λ (b : Bool). cond b (14 + min (z .«name_len») 64) 13) e)
+
+  pub named-length : z .named ≡ true → length (z .name) ≡ 64 → 14 + min (z .«name_len») 64 ≡ length (zoneBytes (zoneOf z))
+  named-length e k =
+      let n = take (z .«name_len») (z .name) in
+      let l = length-head (bitsOf (z .offset)) (z .«valid_at») 1 in
+      omega (arith, ap length (named-bytes z e), length-append (zoneHead z 1 ++ (length n ∷ [])) n, length-append (zoneHead z 1) (length n ∷ []), length-take (z .«name_len») (z .name))

@@ -1,4 +1,5 @@
 -- A run of writes, one after another from a place on.
+use mathlib.Core.Bool.{false}
 use mathlib.Core.List.{List, [], _∷_, _++_, map, append-assoc, append-nil}
 use mathlib.Core.Path.{_≡_, refl, sym, ap, _∙_}
 use Prim.Native.Nat.{ℕ, zero, suc, _+_, _*_, _-_, _≤_, _<_, min}
@@ -8,9 +9,14 @@ use native.Mathlib.Omega.{arith}
 use lib.ListN.{length, take, drop, set, getD, replicate, length-append, length-take, length-map, take-append-drop, List·getD-map, length-replicate}
 use lib.Seq.{take-suc, getD-take, length-take-le, take-length, take-all}
 use Rattle.model.specs.Bytes.{allBytes}
-use Rattle.word.specs.Place.{put, placed}
+use Rattle.word.specs.Place.{fitsAt, put, placed}
 use Rattle.word.proofs.Laws.{length-put, put-put, put-one}
 use Rattle.word.proofs.Places.{placed-there}
+
+-- bytes that do not fit are not put anywhere
+pub placed-short : (s : List ℕ) (at : ℕ) (bs : List ℕ) → fitsAt s at (length bs) ≡ false → placed s at bs ≡ s
+unfolding placed
+placed-short s at bs h = rw h
 
 -- `n` zeros
 abbrev pub zeros : ℕ → List ℕ

@@ -3,9 +3,9 @@ ghost use mathlib.Core.Path.{_≡_};
 ghost use Prim.Native.Nat.{_+_, _≤_};
 ghost use lib.ListN.{length, take};
 ghost use Rattle.model.specs.Bytes.{zoneBytes, windowBytes, zonesBytes, windowsBytes};
-ghost use Rattle.word.specs.Place.{put};
+ghost use Rattle.word.specs.Place.{put, placed};
 ghost use Rattle.record.specs.Data.{zoneOf, windowOf, zonesOf, windowsOf, listsOf};
-ghost use Rattle.record.specs.Written.{headBytes, recordOf};
+ghost use Rattle.record.specs.Written.{headBytes, zoneLength, windowLength, recordOf};
 use crate::DSTOffsetEntry;
 use crate::Record;
 use crate::TimeZoneOwned;
@@ -37,7 +37,7 @@ fn put_head(out: &mut [u8], at: usize, offset: i32, start: u64, mark: u8)
 
 // Writes a zone at `at`, and answers the place after it.
 fn put_zone(out: &mut [u8], at: usize, z: TimeZoneOwned) -> usize
-    requires { ⌜ at + 78 ≤ length (now out) ⌝ }
+    requires { ⌜ at + zoneLength z ≤ length (now out) ⌝ }
     ensures { λ r. ⌜ (now (out .exit) ≡ put (now (out .entry)) at (zoneBytes (zoneOf z))) × (r ≡ at + length (zoneBytes (zoneOf z))) × (r ≤ at + 78) ⌝ }
 {
     let offset = z.offset;
@@ -56,7 +56,7 @@ fn put_zone(out: &mut [u8], at: usize, z: TimeZoneOwned) -> usize
 
 // Writes a window at `at`, and answers the place after it.
 fn put_window(out: &mut [u8], at: usize, w: DSTOffsetEntry) -> usize
-    requires { ⌜ at + 21 ≤ length (now out) ⌝ }
+    requires { ⌜ at + windowLength w ≤ length (now out) ⌝ }
     ensures { λ r. ⌜ (now (out .exit) ≡ put (now (out .entry)) at (windowBytes (windowOf w))) × (r ≡ at + length (windowBytes (windowOf w))) × (r ≤ at + 21) ⌝ }
 {
     let offset = w.offset;
@@ -117,4 +117,47 @@ pub fn record(d: TimeZoneStoreData) -> Record
     let at = put_zones(&mut out, d);
     let length = put_windows(&mut out, at, d);
     Record { bytes: out, length }
+}
+
+// How many bytes a zone is written as.
+fn zone_length(z: TimeZoneOwned) -> usize
+    ensures room { λ r. ⌜ r ≡ zoneLength z ⌝ }
+    ensures bytes { λ r. ⌜ r ≡ length (zoneBytes (zoneOf z)) ⌝ }
+{
+    if z.named {
+        return 14 + least(z.name_len, 64);
+    }
+    13
+}
+
+// Writes a zone at `at`, where it fits.
+pub fn zone_at(out: &mut [u8], at: usize, z: TimeZoneOwned)
+    ensures { λ _. ⌜ now (out .exit) ≡ placed (now (out .entry)) at (zoneBytes (zoneOf z)) ⌝ }
+{
+    let n = zone_length(z);
+    if word::in_bounds(out, at, n) {
+        put_zone(out, at, z);
+    }
+}
+
+// How many bytes a window is written as.
+fn window_length(w: DSTOffsetEntry) -> usize
+    ensures room { λ r. ⌜ r ≡ windowLength w ⌝ }
+    ensures bytes { λ r. ⌜ r ≡ length (windowBytes (windowOf w)) ⌝ }
+{
+    let until = w.valid_until;
+    match until {
+        MaybeU64::Nothing => 13,
+        MaybeU64::Is(_) => 21,
+    }
+}
+
+// Writes a window at `at`, where it fits.
+pub fn window_at(out: &mut [u8], at: usize, w: DSTOffsetEntry)
+    ensures { λ _. ⌜ now (out .exit) ≡ placed (now (out .entry)) at (windowBytes (windowOf w)) ⌝ }
+{
+    let n = window_length(w);
+    if word::in_bounds(out, at, n) {
+        put_window(out, at, w);
+    }
 }

@@ -11,7 +11,7 @@ use lib.ListN.{length, take, drop, length-drop}
 use lib.Seq.{drop-drop}
 use Rattle.model.specs.Bytes.{takeBytes, number, bytes, wellFormed}
 use Rattle.model.proofs.Words.{length-bytes}
-use Rattle.word.specs.Place.{fitsAt, numberAt, textAt, put, placed}
+use Rattle.word.specs.Place.{fitsAt, numberAt, wordAt, textAt, put, placed}
 use Rattle.model.proofs.Facts.{by-test}
 
 module _ (w : ℕ) (s : List ℕ) (at : ℕ) where
@@ -48,6 +48,14 @@ module _ (w : ℕ) (s : List ℕ) (at : ℕ) {b : Bool} (f : b ≡ fitsAt s at w
   pub number-none : b ≡ false → numberAt w s at ≡ none
   unfolding numberAt
   number-none t = rw (sym f ∙ t)
+
+  pub word-is : b ≡ true → wordAt w s at ≡ number (take w (drop at s))
+  unfolding wordAt
+  word-is t = rw (sym f ∙ t)
+
+  pub word-none : b ≡ false → wordAt w s at ≡ 0
+  unfolding wordAt
+  word-none t = rw (sym f ∙ t)
 
   pub text-is : b ≡ true → textAt s at w ≡ wellFormed (take w (drop at s))
   unfolding textAt

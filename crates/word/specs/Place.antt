@@ -5,7 +5,7 @@ use mathlib.Core.Option.{Option, none, some}
 use Prim.Native.Nat.{ℕ, _+_}
 use lib.Dec.{leb}
 use lib.IntN.{ℤ}
-use lib.ListN.{length, take, drop}
+use lib.ListN.{length, take, drop, getD}
 use Rattle.model.specs.Bytes.{number, signed, wellFormed}
 use Rattle.word.specs.declared.MaybeU32.{MaybeU32}
 use Rattle.word.specs.declared.MaybeU32.the-variants as U
@@ -38,6 +38,14 @@ put s at bs = take at s ++ bs ++ drop (at + length bs) s
 -- the same where they fit, else s as it was
 unfoldable pub placed : List ℕ → ℕ → List ℕ → List ℕ
 placed s at bs = cond (fitsAt s at (length bs)) (put s at bs) s
+
+-- the byte at `at`; 0 where there is none
+abbrev pub byteAt : List ℕ → ℕ → ℕ
+byteAt s at = getD s at 0
+
+-- the number of w bytes at `at`; 0 where a byte is missing
+unfoldable pub wordAt : ℕ → List ℕ → ℕ → ℕ
+wordAt w s at = cond (fitsAt s at w) (number (take w (drop at s))) 0
 
 -- n bytes stand at `at` and are well-formed UTF-8
 unfoldable pub textAt : List ℕ → ℕ → ℕ → Bool

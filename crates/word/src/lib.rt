@@ -1,5 +1,6 @@
 // Numbers at a place of a slice, little endian and in two's complement. Every function is total: a place past the end reads as missing,
 // and stores nothing.
+pub mod or_zero;
 pub mod text;
 
 ghost use mathlib.Core.Path.{_≡_};

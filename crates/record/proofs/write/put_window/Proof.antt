@@ -15,9 +15,13 @@ use Rattle.record.specs.declared.DSTOffsetEntry.{DSTOffsetEntry}
 use Rattle.record.specs.Data.{windowOf}
 use Rattle.record.specs.Written.{headBytes}
 use Rattle.record.proofs.Writes.{Wrote, wrote-none, wrote-put, wrote-placed, wrote-as}
-use Rattle.record.proofs.Entries.{windowHead, open-bytes, ended-bytes, length-head}
+use Rattle.record.proofs.Entries.{windowHead, open-bytes, ended-bytes, length-head, window-room, ended-length}
 use Rattle.record.proofs.write.put_window.Statement.{statement}
 use Rattle.record.proofs.write.put_window.Tie as tie
+
+-- there is room for the head
+head-room : (c : tie.Start) → c .args .at + 13 ≤ length (c .args .out .now)
+head-room c = omega (arith, window-room (c .args .w) .0, c .pre)
 
 -- the head alone, and the head with an end after it
 module _ (s : List ℕ) (at : ℕ) (w : DSTOffsetEntry) (s₁ : List ℕ) (h : at + 21 ≤ length s) where
@@ -55,11 +59,12 @@ returns-2 c =
     let l = length-head (bitsOf (a .w .offset)) (a .w .«valid_starting») 1 in
     let back : toZ w32 (ofZ w32 (a .w .offset)) ≡ a .w .offset = search needs in
     let p = b .put-head2 .ensures ∙ ap (λ (z : ℤ). put (a .out .now) (a .at) (headBytes z (a .w .«valid_starting») 1)) back in
-    let w = ended-wrote (a .out .now) (a .at) (a .w) _ (start .pre) (k .until .given .0 .0) _ p (u .put-u64 .ensures .1) in
+    let r = ended-length (a .w) _ (k .until .given .1) .0 in
+    let w = ended-wrote (a .out .now) (a .at) (a .w) _ (omega (arith, r, start .pre)) (k .until .given .0 .0) _ p (u .put-u64 .ensures .1) in
     let m = length-bytes 8 (k .until .given .0 .0) in
     (w .is ∙ ap (put (a .out .now) (a .at)) (sym q), omega (arith, ap length q, length-append (windowHead (a .w) 1) (bytes 8 (k .until .given .0 .0))), omega arith)
 
 pub put-window-spec : {M : Type 1} → statement M
 put-window-spec =
     tie.close
-    (tie.spec (λ c. search needs) (λ c κs. search needs) (λ c. search needs) (λ c. search needs) (λ c κs. search needs) (λ c. search needs) (λ c κs. search needs) (λ c. search needs) (λ c. search needs) returns (λ c. search needs) returns-2)
+    (tie.spec (λ c. search needs) (λ c κs. head-room (c .before .before .before .before .before)) (λ c. search needs) (λ c. search needs) (λ c κs. head-room (c .before .before .before .before .before .before)) (λ c. search needs) (λ c κs. search needs) (λ c. search needs) (λ c. search needs) returns (λ c. search needs) returns-2)

@@ -4,9 +4,12 @@ use mathlib.Core.Path.{_≡_, refl, sym, ap, _∙_}
 use Prim.Native.Nat.{ℕ, _+_, _*_, _-_, _≤_, _<_, min}
 use native.Mathlib.Omega.{arith}
 use borrow.Author.Needs.{needs}
-use lib.ListN.{length, set, length-map, length-set}
+use lib.IntN.{pos}
+use lib.ListN.{length, getD, set, length-map, length-set}
+use Rattle.model.specs.declared.MaybeU64.{MaybeU64}
 use Rattle.model.specs.Bytes.{windowBytes, windowsBytes}
 use Rattle.record.specs.Data.{windowOf, windowsOf}
+use Rattle.record.proofs.Entries.{window-room}
 use Rattle.record.proofs.Writes.{Sofar, sofar-start, sofar-more, sofar-end, same-length, length-listed, entry-listed}
 use Rattle.record.proofs.write.put_windows.Statement.{statement}
 use Rattle.record.proofs.write.put_windows.Tie as tie
@@ -43,7 +46,8 @@ loop-holds c =
 put-window-requires : tie.Need-put-window-requires Inv-loop μ-loop
 put-window-requires c κs =
     let l = c .before .before .before in
-    omega (arith, l .loop .inv .0, l .loop .inv .1, l .loop .inv .2 .short, lengths l .1)
+    let z = getD (l .before .before .before .args .t3 .«dst_offset») (l .loop .i) (record { offset = pos 0; «valid_starting» = 0; «valid_until» = MaybeU64.Nothing }) in
+    omega (arith, window-room z .1, l .loop .inv .0, l .loop .inv .1, l .loop .inv .2 .short, lengths l .1)
 
 loop-again : tie.Need-loop-again Inv-loop μ-loop
 loop-again c =

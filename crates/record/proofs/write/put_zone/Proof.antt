@@ -1,4 +1,5 @@
 -- `record::write::put_zone` meets its contract.
+use mathlib.Core.Bool.{true}
 use mathlib.Core.List.{List, [], _∷_, _++_}
 use mathlib.Core.Path.{_≡_, refl, sym, ap, _∙_}
 use Prim.Native.Nat.{ℕ, _+_, _≤_, min}
@@ -14,7 +15,7 @@ use Rattle.record.specs.declared.TimeZoneOwned.{TimeZoneOwned}
 use Rattle.record.specs.Written.{headBytes}
 use Rattle.record.proofs.Writes.{Wrote, wrote-none, wrote-put, wrote-byte, wrote-as}
 use Rattle.record.proofs.Writes as writes
-use Rattle.record.proofs.Entries.{zoneHead, unnamed-bytes, named-bytes, take-min, length-head}
+use Rattle.record.proofs.Entries.{zoneHead, unnamed-bytes, named-bytes, take-min, length-head, zone-room, named-room}
 use Rattle.record.proofs.write.put_zone.Statement.{statement}
 use Rattle.record.proofs.write.put_zone.Tie as tie
 
@@ -22,7 +23,15 @@ use Rattle.record.proofs.write.put_zone.Tie as tie
 sixty-four : (c : tie.Start) → length (c .args .z .name) ≡ 64
 sixty-four c = simp length-map at (c .good .1 .1 .0 .1 .1 .1 .1 .1 .1 .0 .1 .0 .1)
 
-module _ (s : List ℕ) (at : ℕ) (z : TimeZoneOwned) (h : at + 78 ≤ length s) where
+-- there is room for a zone with its name
+room : (c : tie.Start) → c .args .z .named ≡ true → c .args .at + (14 + min (c .args .z .«name_len») 64) ≤ length (c .args .out .now)
+room c e = omega (arith, named-room (c .args .z) e, c .pre)
+
+-- and for the head of any
+head-room : (c : tie.Start) → c .args .at + 13 ≤ length (c .args .out .now)
+head-room c = omega (arith, zone-room (c .args .z) .0, c .pre)
+
+module _ (s : List ℕ) (at : ℕ) (z : TimeZoneOwned) (h : at + (14 + min (z .«name_len») 64) ≤ length s) where
   head-wrote : (m : ℕ) (s₁ : List ℕ) → s₁ ≡ put s at (zoneHead z m) → Wrote s at (zoneHead z m) s₁
   head-wrote m s₁ p =
       let l = length-head (bitsOf (z .offset)) (z .«valid_at») m in
@@ -55,13 +64,22 @@ head-is c =
     let back : toZ w32 (ofZ w32 (a .z .offset)) ≡ a .z .offset = search needs in
     c .put-head .ensures ∙ ap (λ (z : ℤ). put (a .out .now) (a .at) (headBytes z (a .z .«valid_at») 1)) back
 
+slice-write-out : tie.Need-slice-write-out
+slice-write-out c =
+    let b = c .before .before in
+    let start = b .before .before .before .before .before .before .before in
+    let a = start .args in
+    let r = room start (b .before .before .before .before .if1 .taken) in
+    omega (arith, r, writes.same-length (head-wrote (a .out .now) (a .at) (a .z) r 1 _ (head-is b)))
+
 put-name-requires : tie.Need-put-name-requires
 put-name-requires c κs =
     let b = c .before .before .before .before in
     let start = b .before .before .before .before .before .before .before in
     let a = start .args in
     let k = sixty-four start in
-    let w = head-wrote (a .out .now) (a .at) (a .z) (start .pre) 1 _ (head-is b) in
+    let r = room start (b .before .before .before .before .if1 .taken) in
+    let w = head-wrote (a .out .now) (a .at) (a .z) r 1 _ (head-is b) in
     (omega (arith, b .before .before .before .least .ensures), omega (arith, b .before .before .before .least .ensures, writes.same-length w, length-set (b .put-head .last .0) (a .at + 13) (b .before .before .before .least .result)))
 
 named : (c : tie.After-slice-known3) → let b = c .before .before .before .before .before .before .before in
@@ -72,7 +90,7 @@ named c =
     let b = c .before .before .before .before .before .before .before in
     let start = b .before .before .before .before .before .before .before in
     let a = start .args in
-    named-wrote (a .out .now) (a .at) (a .z) (start .pre) (b .before .before .before .least .result) (b .put-head .last .0) (c .before .before .put-name .last .0)
+    named-wrote (a .out .now) (a .at) (a .z) (room start (b .before .before .before .before .if1 .taken)) (b .before .before .before .least .result) (b .put-head .last .0) (c .before .before .put-name .last .0)
     (b .before .before .before .least .ensures) (sixty-four start) (head-is b) (c .before .before .put-name .ensures)
 
 returns : tie.Need-returns
@@ -82,7 +100,7 @@ returns c =
     let a = start .args in
     let n = b .before .before .before .least .result in
     let q = named-bytes (a .z) (b .before .before .before .before .if1 .taken) in
-    let e = same-bytes (a .out .now) (a .at) (a .z) (start .pre) n (b .before .before .before .least .ensures) (sixty-four start) in
+    let e = same-bytes (a .out .now) (a .at) (a .z) (room start (b .before .before .before .before .if1 .taken)) n (b .before .before .before .least .ensures) (sixty-four start) in
     let l = length-head (bitsOf (a .z .offset)) (a .z .«valid_at») 1 in
     let k = sixty-four start in (
       named c .is ∙ ap (put (a .out .now) (a .at)) (e ∙ sym q),
@@ -104,4 +122,4 @@ returns-2 c =
 pub put-zone-spec : {M : Type 1} → statement M
 put-zone-spec =
     tie.close
-    (tie.spec (λ c κs. search needs) (λ c κs. search needs) (λ c. search needs) (λ c. search needs) (λ c. search needs) (λ c. search needs) (λ c. search needs) put-name-requires (λ c. search needs) (λ c. search needs) (λ c. writes.same-length (named c)) returns (λ c κs. search needs) (λ c. search needs) (λ c. search needs) returns-2)
+    (tie.spec (λ c κs. search needs) (λ c κs. head-room (c .before .before .before .before .before .before)) (λ c. search needs) (λ c. search needs) slice-write-out (λ c. search needs) (λ c. search needs) put-name-requires (λ c. search needs) (λ c. search needs) (λ c. writes.same-length (named c)) returns (λ c κs. head-room (c .before .before .before .before)) (λ c. search needs) (λ c. search needs) returns-2)

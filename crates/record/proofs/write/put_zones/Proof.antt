@@ -1,12 +1,15 @@
 -- `record::write::put_zones` meets its contract: the first `i` entries are written, behind their count.
-use mathlib.Core.List.{List}
+use mathlib.Core.Bool.{false}
+use mathlib.Core.List.{List, []}
 use mathlib.Core.Path.{_≡_, refl, sym, ap, _∙_}
 use Prim.Native.Nat.{ℕ, _+_, _*_, _-_, _≤_, _<_, min}
 use native.Mathlib.Omega.{arith}
 use borrow.Author.Needs.{needs}
-use lib.ListN.{length, set, length-map, length-set}
+use lib.IntN.{pos}
+use lib.ListN.{length, getD, set, length-map, length-set}
 use Rattle.model.specs.Bytes.{zoneBytes, zonesBytes}
 use Rattle.record.specs.Data.{zoneOf, zonesOf}
+use Rattle.record.proofs.Entries.{zone-room}
 use Rattle.record.proofs.Writes.{Sofar, sofar-start, sofar-more, sofar-end, same-length, length-listed, entry-listed}
 use Rattle.record.proofs.write.put_zones.Statement.{statement}
 use Rattle.record.proofs.write.put_zones.Tie as tie
@@ -43,7 +46,8 @@ loop-holds c =
 put-zone-requires : tie.Need-put-zone-requires Inv-loop μ-loop
 put-zone-requires c κs =
     let l = c .before .before .before in
-    omega (arith, l .loop .inv .0, l .loop .inv .1, l .loop .inv .2 .short, lengths l .1)
+    let z = getD (l .before .before .before .args .t2 .«time_zone») (l .loop .i) (record { offset = pos 0; «valid_at» = 0; named = false; «name_len» = 0; name = [] }) in
+    omega (arith, zone-room z .1, l .loop .inv .0, l .loop .inv .1, l .loop .inv .2 .short, lengths l .1)
 
 loop-again : tie.Need-loop-again Inv-loop μ-loop
 loop-again c =

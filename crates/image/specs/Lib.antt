@@ -1,0 +1,5 @@
+-- The image of a controller: its places, what it stands for, and what writing a part of it leaves.
+pub mod Layout
+pub mod Parts
+pub mod Asked
+pub mod Laws

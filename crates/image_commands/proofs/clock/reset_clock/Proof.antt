@@ -1,0 +1,40 @@
+-- `clock::reset_clock` meets its contract.
+use mathlib.Core.Path.{_≡_, refl, sym, ap, _∙_}
+use mathlib.Core.Bool.{Bool, true, false}
+use Prim.Native.Nat.{ℕ}
+use Rattle.model.specs.Answers.{Result}
+use Rattle.model.specs.Handler as H
+use Rattle.model.specs.Handler.{Device}
+use Rattle.image.specs.Layout.{isImage}
+use Rattle.image.specs.Parts.{deviceIn}
+use Rattle.model.specs.declared.Refusal.the-variants.{BadLimits}
+use Rattle.model.specs.Bytes.{number}
+use Rattle.model.specs.Codes.{returned}
+use Rattle.model.specs.Clock as C
+use Rattle.model.specs.Clock.{Clock}
+use Rattle.image.specs.Parts.{withClock}
+use Rattle.image_commands.specs.Calls.{resetClock}
+use Rattle.image_commands.proofs.Says.{no, yes, Says, refusal-says, on-image, off-image}
+use borrow.Author.Needs.{needs}
+use Rattle.image_commands.proofs.clock.reset_clock.Statement.{statement}
+use Rattle.image_commands.proofs.clock.reset_clock.Tie as tie
+
+returns : tie.Need-returns
+unfolding resetClock
+returns c =
+    let a = c .before .before .before .before .args in
+    let s = a .image .now in
+    off-image (Says s 8 s) s (H.resetClock (a .build) (deviceIn s)) (sym (c .before .is-image .ensures) ∙ no _ (c .if1 .taken)) (refusal-says s (deviceIn s) BadLimits)
+
+returns-2 : tie.Need-returns-2
+unfolding resetClock H.resetClock C.resetPersist returned number
+returns-2 c =
+    let a = c .before .before .before .before .before .before .before .before .before .before .before .args in
+    let s = a .image .now in
+    on-image (Says s 0x454300 _) s (H.resetClock (a .build) (deviceIn s)) (sym (c .before .before .before .before .before .before .before .before .is-image .ensures) ∙ yes _ (c .before .before .before .before .before .before .before .if1 .left))
+    (refl, c .before .before .put-rtc .ensures ∙ ap (λ (x : Result Clock (Unit {0})). withClock s (x .state)) (c .before .before .before .reset-persist .ensures))
+
+pub reset-clock-spec : {M : Type 1} → statement M
+reset-clock-spec =
+    tie.close
+    (tie.spec (λ c κs. search needs) (λ c. search needs) returns (λ c κs. search needs) (λ c κs. search needs) (λ c κs. search needs) (λ c. search needs) returns-2)

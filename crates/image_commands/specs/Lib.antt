@@ -1,0 +1,3 @@
+-- The commands, loads and resets of the device that an image stands for.
+pub mod Calls
+pub mod Taken

@@ -1,0 +1,5 @@
+pub mod Entries
+pub mod Alike
+pub mod Back
+pub mod Rest
+pub mod Written

@@ -1,0 +1,3 @@
+-- The lists of an image by value.
+pub mod ByIndex
+pub mod Laws

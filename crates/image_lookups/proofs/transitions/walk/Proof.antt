@@ -1,0 +1,58 @@
+-- `image_lookups::transitions::walk` meets its contract: what was walked, before the walk that is left, is the whole walk.
+use mathlib.Core.Option.{Option}
+use mathlib.Core.Path.{_≡_, sym, _∙_, ap}
+use Prim.Native.Nat.{ℕ, _≤_, _-_}
+use native.Mathlib.Omega.{arith}
+use borrow.Author.Needs.{needs}
+use Rattle.model.specs.declared.MaybeU64.{MaybeU64}
+use Rattle.model.specs.Lookups.{nextTransition}
+use Rattle.model.specs.Maybe.{optionU64, maybeU64}
+use Rattle.record.proofs.AtIndex.{back}
+use Rattle.lookups.proofs.Walked.{few-boundaries, Sofar, sofar-start, sofar-more, sofar-end, sofar-full}
+use Rattle.image.specs.Layout.{listsIn}
+use Rattle.image_lookups.proofs.Views.{few-zones, few-windows}
+use Rattle.image_lookups.proofs.transitions.walk.Statement.{statement}
+use Rattle.image_lookups.proofs.transitions.walk.Tie as tie
+
+abbrev Inv-loop : tie.InvT-loop
+Inv-loop s start moments₀ steps₀ at₀ moments steps at = (steps ≤ 40) × Sofar (listsIn s) 40 start moments steps at
+
+abbrev μ-loop : tie.MeasureT-loop
+μ-loop s start moments₀ steps₀ at₀ moments steps at = 40 - steps
+
+-- the moment that an answer stands for
+said : (o : Option ℕ) (r m : MaybeU64) → r ≡ maybeU64 o → r ≡ m → o ≡ optionU64 m
+said o r m e q = sym (back o) ∙ ap optionU64 (sym e ∙ q)
+
+loop-holds : tie.Need-loop-holds Inv-loop μ-loop
+loop-holds c =
+    let a = c .before .args in
+    let s = a .s .now in
+    (omega arith, sofar-start (listsIn s) 40 (a .start) (few-boundaries (listsIn s) (few-zones s) (few-windows s)))
+
+returns : tie.Need-returns Inv-loop μ-loop
+returns c =
+    let b = c .before .before .before .before in
+    let a = b .before .before .args in
+    let l = listsIn (a .s .now) in
+    sofar-end l 40 (a .start) _ _ (b .loop .at) (b .loop .inv .1) (said (nextTransition l (b .loop .at)) _ MaybeU64.Nothing (c .before .before .next-transition .ensures) (c .enum-told .given .1))
+
+loop-again : tie.Need-loop-again Inv-loop μ-loop
+loop-again c =
+    let b = c .before .before .before .before .before in
+    let a = b .before .before .args in
+    let l = listsIn (a .s .now) in
+    let m = c .before .m .given in
+    (omega arith, sofar-more l 40 (a .start) _ _ (b .loop .at) (m .0 .0) (b .loop .inv .1) (said (nextTransition l (b .loop .at)) _ (MaybeU64.Is (m .0 .0)) (c .before .before .before .next-transition .ensures) (m .1)))
+
+returns-2 : tie.Need-returns-2 Inv-loop μ-loop
+returns-2 c =
+    let b = c .before in
+    let a = b .before .before .args in
+    let l = listsIn (a .s .now) in
+    sofar-end l 40 (a .start) _ _ (b .loop .at) (b .loop .inv .1) (sofar-full l 40 (a .start) _ _ (b .loop .at) (b .loop .inv .1) (omega arith))
+
+pub walk-spec : {M : Type 1} → statement M
+walk-spec =
+    tie.close
+    (tie.spec Inv-loop μ-loop (λ c. search needs) loop-holds (λ c κs. search needs) (λ c. search needs) (λ c. search needs) returns (λ c. search needs) (λ c. search needs) (λ c. search needs) (λ c. search needs) loop-again returns-2)

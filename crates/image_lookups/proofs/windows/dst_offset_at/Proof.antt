@@ -1,0 +1,24 @@
+-- `image_lookups::windows::dst_offset_at` meets its contract.
+use mathlib.Core.Path.{sym, _∙_}
+use native.Mathlib.Omega.{arith}
+use borrow.Author.Needs.{needs}
+use Rattle.image_lookups.proofs.Views.{window-there, window-past}
+use Rattle.image_lookups.proofs.windows.dst_offset_at.Statement.{statement}
+use Rattle.image_lookups.proofs.windows.dst_offset_at.Tie as tie
+
+returns : tie.Need-returns
+returns c =
+    let n = c .before .before in
+    let a = n .before .before .args in
+    c .window-there .ensures ∙ sym (window-there (a .s .now) (a .i) (omega (arith, n .window-count .ensures)))
+
+returns-2 : tie.Need-returns-2
+returns-2 c =
+    let n = c .before .before in
+    let a = n .before .before .args in
+    c .no-window .ensures ∙ sym (window-past (a .s .now) (a .i) (omega (arith, n .window-count .ensures)))
+
+pub dst-offset-at-spec : {M : Type 1} → statement M
+dst-offset-at-spec =
+    tie.close
+    (tie.spec (λ c κs. search needs) (λ c κs. search needs) returns (λ c κs. search needs) returns-2)

@@ -1,0 +1,52 @@
+-- `image_lookups::windows::dst_usable` meets its contract.
+use mathlib.Core.List.{List}
+use mathlib.Core.Path.{_≡_, sym, _∙_, ap}
+use Prim.Native.Nat.{_-_, _≤_}
+use native.Mathlib.Omega.{arith}
+use borrow.Author.Needs.{needs}
+use Rattle.model.specs.Basics.{any}
+use Rattle.model.specs.Lists.{Window}
+use Rattle.model.specs.Lookups.{isUsable, usable}
+use Rattle.image.specs.Layout.{windowCount, entriesFrom, windowsIn, listsIn}
+use Rattle.image_lookups.proofs.Entries.{whole, any-hit, any-miss, any-over}
+use Rattle.image_lookups.proofs.Views.{windowOf}
+use Rattle.image_lookups.proofs.windows.dst_usable.Statement.{statement}
+use Rattle.image_lookups.proofs.windows.dst_usable.Tie as tie
+
+abbrev Inv-loop : tie.InvT-loop
+Inv-loop s utc n i₀ i = (n ≡ windowCount s) × (i ≤ n) × (usable (listsIn s) utc ≡ any (isUsable utc) (entriesFrom (windowOf s) i (n - i)))
+
+abbrev μ-loop : tie.MeasureT-loop
+μ-loop s utc n i₀ i = n - i
+
+loop-holds : tie.Need-loop-holds Inv-loop μ-loop
+unfolding usable windowsIn
+loop-holds c =
+    let a = c .before .before .args in
+    let e = c .window-count .ensures in
+    (e, omega arith, ap (λ (ws : List Window). any (isUsable (a .utc)) ws) (whole (windowOf (a .s .now)) _ (windowCount (a .s .now)) e))
+
+returns : tie.Need-returns Inv-loop μ-loop
+returns c =
+    let l = c .before .before .before in
+    let a = l .before .before .before .args in
+    let t = sym (c .before .is-usable .ensures) ∙ c .if1 .taken in
+    sym (l .loop .inv .2 ∙ any-hit (isUsable (a .utc)) (windowOf (a .s .now)) _ (l .loop .i) (omega arith) t)
+
+loop-again : tie.Need-loop-again Inv-loop μ-loop
+loop-again c =
+    let l = c .before .before .before in
+    let a = l .before .before .before .args in
+    let t = sym (c .before .is-usable .ensures) ∙ c .if1 .left in
+    (search needs, search needs, l .loop .inv .2 ∙ any-miss (isUsable (a .utc)) (windowOf (a .s .now)) _ (l .loop .i) (omega arith) t)
+
+returns-2 : tie.Need-returns-2 Inv-loop μ-loop
+returns-2 c =
+    let l = c .before in
+    let a = l .before .before .before .args in
+    sym (l .loop .inv .2 ∙ any-over (isUsable (a .utc)) (windowOf (a .s .now)) _ (l .loop .i) (omega arith))
+
+pub dst-usable-spec : {M : Type 1} → statement M
+dst-usable-spec =
+    tie.close
+    (tie.spec Inv-loop μ-loop (λ c κs. search needs) loop-holds (λ c. search needs) (λ c κs. search needs) returns (λ c. search needs) loop-again returns-2)

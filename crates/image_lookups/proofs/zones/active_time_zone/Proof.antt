@@ -1,0 +1,60 @@
+-- `image_lookups::zones::active_time_zone` meets its contract.
+use mathlib.Core.Bool.{Bool}
+use mathlib.Core.List.{List}
+use mathlib.Core.Path.{_≡_, sym, _∙_, ap}
+use Prim.Native.Nat.{ℕ, _-_, _≤_}
+use native.Mathlib.Omega.{arith}
+use borrow.Author.Needs.{needs}
+use borrow.Author.Tests.{le-leb, lt-leb}
+use lib.Dec.{leb}
+use Rattle.model.specs.Basics.{keep, last}
+use Rattle.image.specs.Layout.{zoneCount, entriesFrom}
+use Rattle.image_lookups.specs.Shown.{shownBy, activeIndex}
+use Rattle.image_lookups.proofs.Entries.{last-hit, last-miss, last-over}
+use Rattle.image_lookups.proofs.Views.{zoneOf}
+use Rattle.image_lookups.proofs.zones.active_time_zone.Statement.{statement}
+use Rattle.image_lookups.proofs.zones.active_time_zone.Tie as tie
+
+-- the zone with an index has started
+abbrev begun : List ℕ → ℕ → ℕ → Bool
+begun s utc i = leb (zoneOf s i .start) utc
+
+abbrev Inv-loop : tie.InvT-loop
+Inv-loop s utc i₀ i = (i ≤ zoneCount s) × (activeIndex s utc ≡ last (keep (begun s utc) (entriesFrom (λ k. k) 0 i)))
+
+abbrev μ-loop : tie.MeasureT-loop
+μ-loop s utc i₀ i = i
+
+loop-holds : tie.Need-loop-holds Inv-loop μ-loop
+unfolding activeIndex
+loop-holds c =
+    let a = c .before .before .args in
+    let e = c .zone-count .ensures in
+    (omega (arith, e), ap (λ (n : ℕ). last (keep (begun (a .s .now) (a .utc)) (entriesFrom (λ k. k) 0 n))) (sym e))
+
+returns : tie.Need-returns Inv-loop μ-loop
+returns c =
+    let l = c .before .before .before .before in
+    let a = l .before .before .before .args in
+    let s = a .s .now in
+    let t = le-leb (zoneOf s (l .loop .i - 1) .start) (a .utc) (omega (arith, c .before .before .zone-start .ensures)) in
+    c .zone-shown .ensures ∙ sym (ap (shownBy s) (l .loop .inv .1 ∙ last-hit (begun s (a .utc)) (λ k. k) (l .loop .i) (omega arith) t))
+
+loop-again : tie.Need-loop-again Inv-loop μ-loop
+loop-again c =
+    let l = c .before .before .before in
+    let a = l .before .before .before .args in
+    let t = lt-leb (zoneOf (a .s .now) (l .loop .i - 1) .start) (a .utc) (omega (arith, c .before .zone-start .ensures)) in
+    (omega arith, l .loop .inv .1 ∙ last-miss (begun (a .s .now) (a .utc)) (λ k. k) (l .loop .i) (omega arith) t)
+
+returns-2 : tie.Need-returns-2 Inv-loop μ-loop
+returns-2 c =
+    let l = c .before .before in
+    let a = l .before .before .before .args in
+    let s = a .s .now in
+    c .no-zone .ensures ∙ sym (ap (shownBy s) (l .loop .inv .1 ∙ last-over (begun s (a .utc)) (λ k. k) (l .loop .i) (omega arith)))
+
+pub active-time-zone-spec : {M : Type 1} → statement M
+active-time-zone-spec =
+    tie.close
+    (tie.spec Inv-loop μ-loop (λ c κs. search needs) loop-holds (λ c. search needs) (λ c κs. search needs) (λ c κs. search needs) returns (λ c. search needs) loop-again (λ c κs. search needs) returns-2)

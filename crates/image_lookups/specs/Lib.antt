@@ -1,0 +1,3 @@
+-- Lookups in the lists of an image.
+pub mod Shown
+pub mod Laws

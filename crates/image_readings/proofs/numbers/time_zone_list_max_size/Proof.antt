@@ -1,0 +1,28 @@
+-- `image_readings::numbers::time_zone_list_max_size` meets its contract.
+use borrow.Author.Needs.{needs}
+use Rattle.model.specs.Handler as H
+use Rattle.model.specs.Store.{Store}
+use Rattle.model.specs.Answers.{Answer, answers}
+use Prim.Native.Nat.{ℕ}
+use Rattle.image_readings.proofs.Answered.{store-refused, store-read, refused-number, refused-leaves, answered-number, answered-leaves}
+use Rattle.image_readings.proofs.numbers.time_zone_list_max_size.Statement.{statement}
+use Rattle.image_readings.proofs.numbers.time_zone_list_max_size.Tie as tie
+
+abbrev read : Store → Answer ℕ
+read t = answers (t .rules .zoneLimit)
+
+returns : tie.Need-returns
+unfolding H.zoneLimitRead
+returns c =
+    let r = store-refused (c .before .before .before .args .image .now) read (c .before .lists-refusal .result) (c .before .lists-refusal .ensures) (c .if1 .taken) in
+    (refused-number r, refused-leaves r _ _)
+
+returns-2 : tie.Need-returns-2
+unfolding H.zoneLimitRead
+returns-2 c =
+    let s = c .before .before .before .before .args .image .now in
+    let e = store-read s read (c .before .before .lists-refusal .result) (c .before .before .lists-refusal .ensures) (c .before .if1 .left) in
+    (answered-number e, answered-leaves e _ _ _ (c .zone-limit .ensures))
+
+pub time-zone-list-max-size-spec : {M : Type 1} → statement M
+time-zone-list-max-size-spec = tie.close (tie.spec (λ c κs. search needs) returns (λ c κs. search needs) returns-2)

@@ -1,0 +1,3 @@
+-- The readings of the device that an image stands for.
+pub mod Readings
+pub mod There

@@ -1,0 +1,5 @@
+pub mod Codes
+pub mod Copied
+pub mod Replays
+pub mod Steps
+pub mod Told

@@ -1,0 +1,15 @@
+-- `image_steps::timer::name_length` meets its contract.
+use Rattle.image_steps.proofs.timer.name_length.Statement.{statement}
+use Rattle.image_steps.proofs.timer.name_length.Tie as tie
+
+returns : tie.Need-returns
+returns c = rw (c .before .if1 .taken, c .if2 .taken)
+
+returns-2 : tie.Need-returns-2
+returns-2 c = rw (c .before .if1 .taken, c .if2 .left)
+
+returns-3 : tie.Need-returns-3
+returns-3 c = rw (c .if1 .left)
+
+pub name-length-spec : {M : Type 1} → statement M
+name-length-spec = tie.close (tie.spec returns returns-2 returns-3)

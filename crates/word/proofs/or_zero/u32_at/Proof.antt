@@ -1,0 +1,26 @@
+-- `word::or_zero::u32_at` meets its contract.
+use mathlib.Core.Path.{_≡_, sym, _∙_}
+use native.Mathlib.Omega.{arith}
+use borrow.Author.Needs.{needs}
+use lib.Dec.{lit≤}
+use Rattle.word.proofs.Places.{fitting, word-is, word-none}
+use Rattle.word.proofs.or_zero.u32_at.Statement.{statement}
+use Rattle.word.proofs.or_zero.u32_at.Tie as tie
+
+get-requires : tie.Need-get-requires
+get-requires c κs =
+    let a = c .before .before .before .args in
+    (lit≤ tt, fitting 4 (a .s .now) (a .at) (c .before .in-bounds .ensures) (c .if1 .taken))
+
+returns : tie.Need-returns
+returns c =
+    let a = c .before .before .before .before .args in
+    c .get .ensures .0 ∙ sym (word-is 4 (a .s .now) (a .at) (c .before .before .in-bounds .ensures) (c .before .if1 .taken))
+
+returns-2 : tie.Need-returns-2
+returns-2 c =
+    let a = c .before .before .before .args in
+    sym (word-none 4 (a .s .now) (a .at) (c .before .in-bounds .ensures) (c .if1 .left))
+
+pub u32-at-spec : {M : Type 1} → statement M
+u32-at-spec = tie.close (tie.spec (λ c κs. search needs) get-requires (λ c. omega (arith, c .get .ensures .1)) returns returns-2)

@@ -1,0 +1,460 @@
+/*
+ * timesync.h: the clock, the time-zone list store with its handler and timer, and the client of a Matter node, over one image.
+ *
+ * Link with libcontroller.a. Nothing is allocated and nothing is kept between two calls: all state is the image, a slice of
+ * TIMESYNC_IMAGE_SIZE bytes that the caller lends to every call.
+ *
+ * Arguments
+ *   - A slice is a pointer and a length. Of a slice of length 0 nothing is read or written, and its pointer can be any that is not
+ *     NULL. Every other pointer points to as many bytes as the length says, or to one number. No pointer may be NULL.
+ *   - Slices and numbers that one call is lent must not overlap where one of them is not const. The functions cannot notice it, and
+ *     what an overlapping call does is the caller's fault.
+ *   - Two calls on one image must not run at the same time, unless both take it as const.
+ *   - A mark that is given by value (has_..., named, there, list_store, answered) says absent where it is 0 and present where it is any
+ *     other number. What belongs to an absent mark is not looked at.
+ *   - Moments are microseconds since the Matter epoch (2000-01-01 UTC); ticks are microseconds of a monotonic counter whose zero is
+ *     the caller's. A tick before an earlier one counts as no time elapsed.
+ *   - A length that a call copies is written as a 64-bit number.
+ *
+ * Results
+ *   - A reading returns 0, or the number of a refusal.
+ *   - A call that may change the image returns its number in the lowest byte (0 or a refusal) and above it a code for each effect, one
+ *     byte each, the first lowest; see TIMESYNC_ANSWER and TIMESYNC_EFFECT. The caller carries the effects out in that order. At most
+ *     four effects are asked for at a time.
+ *   - On a refusal every lent output, and the image, stay as they were. There is one exception: SetDSTOffset refused with 2 or 3 empties
+ *     the windows in the image, counts a change and asks for the timer to be woken, and still leaves the other outputs as they were.
+ *   - Where a call is taken, all its outputs are written. A value that may be missing has a mark beside it, 0 or 1, and is 0 where it is
+ *     missing. What is copied stands at the front of its slice; the bytes past it stay as they were.
+ *
+ * Every function that takes an image refuses a slice that is none with 8: one shorter than TIMESYNC_IMAGE_SIZE, or with a mark, a code, a
+ * limit or a count out of range. Only timesync_new takes a slice of any bytes. A slice longer than an image is fine, and the bytes past
+ * the image stay as they were.
+ *
+ * The image. Numbers are little endian, offsets in two's complement. The layout is given for tests and for debuggers: only the functions
+ * below write an image, and timesync_new makes one. Keep it in RAM: flash holds the moment, the trusted time source and the record.
+ *
+ *     at  bytes  what
+ *      0      1  whether there is a list store, 0 or 1
+ *      1      1  zone limit, at most 8; 1 or more with a list store
+ *      2      1  window limit, at most 16; 1 or more with a list store
+ *      3      1  how many zones there are, at most the zone limit
+ *      4      1  how many windows there are, at most the window limit
+ *      5      1  whether the timer has seen anything, 0 or 1
+ *      6      1  whether it saw a window active, 0 or 1
+ *      7      1  whether it saw one usable, 0 or 1
+ *      8      4  the zone's offset that it saw
+ *     12      4  generation
+ *     16      1  granularity, 0 to 4
+ *     17      1  time source, 0 to 16
+ *     18      1  whether the clock is set, 0 or 1
+ *     19      1  whether there is a trusted time source, 0 or 1
+ *     20      1  its fabric index
+ *     21      1  0
+ *     22      2  its endpoint
+ *     24      8  UTC time, last set or last known
+ *     32      8  UTC time that was persisted
+ *     40      8  tick of the last setting
+ *     48      8  node of the trusted time source
+ *     56      8  period of the client
+ *     64      8  its next retry
+ *     72      8  tick of its last MissingTrustedTimeSource
+ *     80      8  tick of its last TimeFailure
+ *     88      1  whether there was a MissingTrustedTimeSource, 0 or 1
+ *     89      1  whether there was a TimeFailure, 0 or 1
+ *     90      6  not used
+ *     96    640  8 zones, 80 bytes each, written as in a record; what is left of the 80 is not used
+ *    736    384  16 windows, 24 bytes each, written as in a record; what is left of the 24 is not used
+ *
+ * Requests and records
+ *   section  a count in one byte, then so many entries and nothing else
+ *   zone     offset in seconds, 4 bytes; start, 8 bytes; then 0 for no name, or 1, the name's length in one byte and its bytes, which are
+ *            well-formed UTF-8
+ *   window   offset in seconds, 4 bytes; start, 8 bytes; then 0 for a window without an end, or 1 and the end, 8 bytes
+ *   record   the zones' section, then the windows' section
+ *
+ * A list of zones is accepted where there are no more than the zone limit, the first starts at 0 and no other does, each starts after the
+ * one before it, each offset lies from -43200 to 50400, and no name is longer than 64 bytes. A list of windows is accepted where there are
+ * no more than the window limit, only the last may be without an end, each starts after the start before it and not before the end before
+ * it, and each starts before its own end.
+ */
+#ifndef TIMESYNC_H
+#define TIMESYNC_H
+
+#include <stddef.h>
+#include <stdint.h>
+
+#ifdef __cplusplus
+extern "C" {
+#endif
+
+/* ---- Sizes, in bytes unless they say otherwise ---- */
+
+#define TIMESYNC_IMAGE_SIZE 1120 /* an image */
+#define TIMESYNC_NAME_MAX 64     /* the longest name of a zone */
+#define TIMESYNC_RECORD_MAX 962  /* the longest record, at limits 8 and 16 */
+#define TIMESYNC_MOMENTS_MAX 328 /* the longest walk: 41 moments of 8 bytes */
+#define TIMESYNC_ZONES_MAX 8     /* the largest zone limit, in entries */
+#define TIMESYNC_WINDOWS_MAX 16  /* the largest window limit, in entries */
+
+/* ---- Answers ---- */
+
+#define TIMESYNC_OK 0                 /* the call was taken */
+#define TIMESYNC_UNREADABLE 1         /* a request, a number or a history that says nothing */
+#define TIMESYNC_CONSTRAINT_ERROR 2   /* an entry breaks a rule, or an index is past the list */
+#define TIMESYNC_RESOURCE_EXHAUSTED 3 /* more entries than the limit */
+#define TIMESYNC_INVALID_COMMAND 4    /* fabric index 0 */
+#define TIMESYNC_COMMAND_NOT_FOUND 5  /* a command on the lists, and there is no list store */
+#define TIMESYNC_ATTRIBUTE_NOT_FOUND 6 /* a reading of the lists, and there is no list store */
+#define TIMESYNC_BAD_RECORD 7         /* what flash held is not what was stored */
+#define TIMESYNC_BAD_LIMITS 8         /* limits that are not allowed, or a slice that is no image */
+#define TIMESYNC_NO_SPACE 9           /* an output slice is shorter than what is copied into it */
+
+/* the number of the answer, of what a call returned */
+#define TIMESYNC_ANSWER(returned) ((unsigned)((uint64_t)(returned) & 0xFFu))
+
+/* the code of the effect with index i (0 to 6) of what a call returned; 0 where there is no such effect */
+#define TIMESYNC_EFFECT(returned, i) ((unsigned)(((uint64_t)(returned) >> (8u * ((unsigned)(i) + 1u))) & 0xFFu))
+
+/* ---- Effects ---- */
+
+#define TIMESYNC_REPORT 0x10u /* and the attribute's number: report that it changed */
+#define TIMESYNC_EMIT 0x20u   /* and the event's number: emit it */
+
+#define TIMESYNC_REPORT_UTC_TIME 0x10u
+#define TIMESYNC_REPORT_GRANULARITY 0x11u
+#define TIMESYNC_REPORT_TIME_SOURCE 0x12u
+#define TIMESYNC_REPORT_TRUSTED_TIME_SOURCE 0x13u
+#define TIMESYNC_REPORT_TIME_ZONE 0x15u
+#define TIMESYNC_REPORT_DST_OFFSET 0x16u
+#define TIMESYNC_EMIT_DST_TABLE_EMPTY 0x20u
+#define TIMESYNC_EMIT_DST_STATUS 0x21u
+#define TIMESYNC_EMIT_TIME_ZONE_STATUS 0x22u
+#define TIMESYNC_EMIT_TIME_FAILURE 0x23u
+#define TIMESYNC_EMIT_MISSING_TRUSTED_TIME_SOURCE 0x24u
+#define TIMESYNC_WAKE_TIMER 0x30u    /* look again, with timesync_look */
+#define TIMESYNC_WAKE_CLIENT 0x31u   /* tell the client, with timesync_source_changed */
+#define TIMESYNC_STORE_RECORD 0x40u  /* store the record that was copied into out */
+#define TIMESYNC_REMOVE_RECORD 0x41u
+#define TIMESYNC_STORE_MOMENT 0x42u  /* store the moment that the call was given */
+#define TIMESYNC_REMOVE_MOMENT 0x43u
+#define TIMESYNC_STORE_SOURCE 0x44u  /* store the trusted time source that the call was given, with its fabric index */
+#define TIMESYNC_REMOVE_SOURCE 0x45u
+
+/* ---- Matter's numbers ---- */
+
+/* attributes that are reported */
+#define TIMESYNC_ATTRIBUTE_UTC_TIME 0
+#define TIMESYNC_ATTRIBUTE_GRANULARITY 1
+#define TIMESYNC_ATTRIBUTE_TIME_SOURCE 2
+#define TIMESYNC_ATTRIBUTE_TRUSTED_TIME_SOURCE 3
+#define TIMESYNC_ATTRIBUTE_TIME_ZONE 5
+#define TIMESYNC_ATTRIBUTE_DST_OFFSET 6
+
+/* events */
+#define TIMESYNC_EVENT_DST_TABLE_EMPTY 0
+#define TIMESYNC_EVENT_DST_STATUS 1
+#define TIMESYNC_EVENT_TIME_ZONE_STATUS 2
+#define TIMESYNC_EVENT_TIME_FAILURE 3
+#define TIMESYNC_EVENT_MISSING_TRUSTED_TIME_SOURCE 4
+
+/* granularities */
+#define TIMESYNC_GRANULARITY_NO_TIME 0
+#define TIMESYNC_GRANULARITY_MINUTES 1
+#define TIMESYNC_GRANULARITY_SECONDS 2
+#define TIMESYNC_GRANULARITY_MILLISECONDS 3
+#define TIMESYNC_GRANULARITY_MICROSECONDS 4
+
+/* time sources */
+#define TIMESYNC_SOURCE_NONE 0
+#define TIMESYNC_SOURCE_UNKNOWN 1
+#define TIMESYNC_SOURCE_ADMIN 2
+#define TIMESYNC_SOURCE_NODE_TIME_CLUSTER 3
+#define TIMESYNC_SOURCE_NON_MATTER_SNTP 4
+#define TIMESYNC_SOURCE_NON_MATTER_NTP 5
+#define TIMESYNC_SOURCE_MATTER_SNTP 6
+#define TIMESYNC_SOURCE_MATTER_NTP 7
+#define TIMESYNC_SOURCE_MIXED_NTP 8
+#define TIMESYNC_SOURCE_NON_MATTER_SNTP_NTS 9
+#define TIMESYNC_SOURCE_NON_MATTER_NTP_NTS 10
+#define TIMESYNC_SOURCE_MATTER_SNTP_NTS 11
+#define TIMESYNC_SOURCE_MATTER_NTP_NTS 12
+#define TIMESYNC_SOURCE_MIXED_NTP_NTS 13
+#define TIMESYNC_SOURCE_CLOUD_SOURCE 14
+#define TIMESYNC_SOURCE_PTP 15
+#define TIMESYNC_SOURCE_GNSS 16
+
+/* the answer of timesync_time_zone_database: there is no zone database */
+#define TIMESYNC_DATABASE_NONE 2
+
+/* ---- Sleeps and waits ---- */
+
+#define TIMESYNC_SLEEP_NEVER 0       /* there is no list store, so there is nothing to look at, ever */
+#define TIMESYNC_SLEEP_UNTIL_WOKEN 1 /* until an effect wakes the timer */
+#define TIMESYNC_SLEEP_AT_MOST 2     /* so many microseconds, or until an effect wakes the timer */
+
+#define TIMESYNC_WAIT_ATTEMPT_NOW 0 /* make an attempt at once */
+#define TIMESYNC_WAIT_FOR 1         /* so many microseconds, or until the source changes; then an attempt */
+#define TIMESYNC_WAIT_FOR_SOURCE 2  /* until the source changes */
+
+/* ======== Making an image ======== */
+
+/* The number of bytes of an image, TIMESYNC_IMAGE_SIZE. */
+uint64_t timesync_image_size(void);
+
+/*
+ * Makes a new image in a slice that may hold anything: with a list store of these limits where list_store is not 0 (1 to 8 zones, 1 to 16
+ * windows), else without one, and then the limits are not looked at. The lists are empty, the generation is 0, the clock is not set and
+ * its last known moment is build (the moment the firmware was built), there is no trusted time source, and the client has the period
+ * given, in microseconds. What comes next for the client is an attempt at once.
+ * Writes the whole image and nothing past it. No effects.
+ * Refuses with 8: limits that are not allowed, or a slice shorter than an image.
+ */
+uint64_t timesync_new(uint8_t *image, size_t image_len, uint8_t list_store, size_t zone_limit, size_t window_limit, uint64_t build,
+                      uint64_t period);
+
+/* ======== Commands of the handler ======== */
+
+/*
+ * SetUTCTime: sets the clock at a tick, as an administrator. granularity is kept one step lower and never below Minutes; source is the
+ * request's time source where has_source is not 0, which is tested and then ignored: the clock's becomes Admin.
+ * A setting that changes the moment, the granularity or the source, or that is the first, is kept and anchored at the tick; any other
+ * leaves the clock as it was, its anchor too. The moment is not stored in flash.
+ * Effects: where it was kept report UTCTime, Granularity, TimeSource; then, with a list store and kept or not, wake the timer.
+ * Refuses, in this order, with 8 and 1 (granularity above 4, or a source that is there and above 16).
+ */
+uint64_t timesync_set_utc_time(uint8_t *image, size_t image_len, uint64_t utc_us, uint8_t granularity, uint8_t has_source, uint8_t source,
+                               uint64_t tick);
+
+/*
+ * SetTrustedTimeSource, sent by the fabric fab_idx: the source is the node and endpoint where named is not 0, else there is none.
+ * Effects: where the source is different report TrustedTimeSource, emit MissingTrustedTimeSource where it was cleared, then store or
+ * remove the source; and last, different or not, wake the client.
+ * Refuses, in this order, with 4 (fabric index 0, whatever the image is) and 8.
+ */
+uint64_t timesync_set_trusted_time_source(uint8_t *image, size_t image_len, uint8_t fab_idx, uint8_t named, uint64_t node_id,
+                                          uint16_t endpoint);
+
+/*
+ * SetTimeZone: the request is one section of zones. Accepted, it replaces the zones, empties the windows and counts a change; the record
+ * to store is copied to the front of out and its length is *used. The response's DSTOffsetRequired is true whenever it is accepted.
+ * Effects where accepted: wake the timer, store the record, report TimeZone, report DSTOffset.
+ * Refuses, in this order, with 8, 5, 1 (a section that cannot be read), then entry by entry 3 (the entry past the limit) and 2, and last
+ * 9 (the record does not fit into out; TIMESYNC_RECORD_MAX bytes always do). After any of them nothing has changed.
+ */
+uint64_t timesync_set_time_zone(uint8_t *image, size_t image_len, const uint8_t *request, size_t request_len, uint8_t *out,
+                                size_t out_len, uint64_t *used);
+
+/*
+ * SetDSTOffset: the request is one section of windows. Accepted, it replaces the windows and counts a change; the record to store is
+ * copied to the front of out and its length is *used.
+ * Effects where accepted: wake the timer, store the record, report DSTOffset.
+ * Refuses, in this order, with 8, 5, 1, then entry by entry 3 and 2, and last 9.
+ * Refused with 2 or 3 the windows in the image are emptied, the change is counted and the one effect is to wake the timer: the record in
+ * flash is not replaced, so a later load brings the old windows back. out and *used stay. After 1, 5, 8 and 9 nothing has changed.
+ */
+uint64_t timesync_set_dst_offset(uint8_t *image, size_t image_len, const uint8_t *request, size_t request_len, uint8_t *out,
+                                 size_t out_len, uint64_t *used);
+
+/* ======== Load and reset ======== */
+
+/*
+ * Loads the lists from the record in flash where there is not 0; without a record the image stays as it is. Both lists are replaced, no
+ * change is counted and there are no effects: load before the timer's first look, or look again by yourself.
+ * With no list store the call is taken and does nothing, and stored is not looked at.
+ * Refuses, in this order, with 8 and 7 (a record that cannot be read or that the commands would not accept; one of no bytes, too), and
+ * then the lists stay as they were.
+ */
+uint64_t timesync_load_lists(uint8_t *image, size_t image_len, uint8_t there, const uint8_t *stored, size_t stored_len);
+
+/*
+ * Factory reset of the lists: both are emptied and a change is counted, even where they were empty. With no list store nothing happens
+ * and nothing is asked for.
+ * Effects with a list store: remove the record, wake the timer.
+ * Refuses with 8.
+ */
+uint64_t timesync_reset_lists(uint8_t *image, size_t image_len);
+
+/*
+ * Loads the clock from what flash holds of it: the moment where has_moment is not 0, the trusted time source where has_source is not 0.
+ * The clock is then not set, and its last known moment is the stored one but never below build. No effects.
+ * Refuses, in this order, with 8 and 7 (a source that is there with fabric index 0), and then the clock stays as it was.
+ */
+uint64_t timesync_load_clock(uint8_t *image, size_t image_len, uint64_t build, uint8_t has_moment, uint64_t moment, uint8_t has_source,
+                             uint8_t fab_idx, uint64_t node_id, uint16_t endpoint);
+
+/*
+ * Factory reset of the clock: as new, at the build moment and with no trusted time source.
+ * Effects: remove the moment, remove the source. Nobody is woken.
+ * Refuses with 8.
+ */
+uint64_t timesync_reset_clock(uint8_t *image, size_t image_len, uint64_t build);
+
+/* ======== The clock's own setting ======== */
+
+/*
+ * Sets the clock with a source of any kind, as timesync_set_utc_time does with Admin, and stores nothing. *changed is 1 where the moment,
+ * the lowered granularity or the source is another one, else 0; a first setting can be kept with *changed 0.
+ * Effects where it was kept: report UTCTime, Granularity, TimeSource. The timer is not woken.
+ * Refuses, in this order, with 8 and 1 (granularity above 4, or source above 16).
+ */
+uint64_t timesync_rtc_set_utc_time(uint8_t *image, size_t image_len, uint64_t utc_us, uint8_t granularity, uint8_t source, uint64_t tick,
+                                   uint64_t *changed);
+
+/*
+ * The same, and has the moment stored where it is a day or more from the persisted one, kept or not.
+ * Effects: where it was kept report UTCTime, Granularity, TimeSource; then, a day or more apart, store the moment utc_us.
+ * Refuses, in this order, with 8 and 1.
+ */
+uint64_t timesync_rtc_set_utc_time_persist(uint8_t *image, size_t image_len, uint64_t utc_us, uint8_t granularity, uint8_t source,
+                                           uint64_t tick, uint64_t *changed);
+
+/* ======== Readings of the clock; no list store is needed ======== */
+
+/*
+ * The UTC time at a tick: *reliable is 1 and *utc_us the current moment where the clock is set, else 0 and the last known moment.
+ * The attribute UTCTime is null where *reliable is 0. Refuses with 8.
+ */
+uint64_t timesync_utc_time(const uint8_t *image, size_t image_len, uint64_t tick, uint64_t *reliable, uint64_t *utc_us);
+
+/* Granularity by its number; NoTime until the clock is set. Refuses with 8. */
+uint64_t timesync_utc_time_granularity(const uint8_t *image, size_t image_len, uint64_t *value);
+
+/* TimeSource by its number; None until the clock is set. Refuses with 8. */
+uint64_t timesync_utc_time_source(const uint8_t *image, size_t image_len, uint64_t *value);
+
+/* TrustedTimeSource: *there is 1 and the source follows, or all four are 0. Refuses with 8. */
+uint64_t timesync_trusted_time_source(const uint8_t *image, size_t image_len, uint64_t *there, uint64_t *fab_idx, uint64_t *node_id,
+                                      uint64_t *endpoint);
+
+/*
+ * LocalTime at a tick: *there is 1 and *local_us UTC plus the offsets of the zone and of the active window, held between 0 and the largest
+ * 64-bit number, or both are 0: null, where the clock is not set or no window is usable. Between windows it is UTC plus the zone's offset.
+ * Refuses, in this order, with 8 and 6 (on a set clock; on one that is not set the answer is null, list store or none).
+ */
+uint64_t timesync_local_time(const uint8_t *image, size_t image_len, uint64_t tick, uint64_t *there, uint64_t *local_us);
+
+/* ======== Readings of the lists; refused with 8, then with 6 where there is no list store ======== */
+
+/* TimeZone: how many zones are listed. An empty list shows one zone, so it is never 0. */
+uint64_t timesync_time_zone_count(const uint8_t *image, size_t image_len, uint64_t *value);
+
+/* DSTOffset: how many windows there are, run out or not. */
+uint64_t timesync_dst_offset_count(const uint8_t *image, size_t image_len, uint64_t *value);
+
+/* TimeZoneListMaxSize: the zone limit. */
+uint64_t timesync_time_zone_list_max_size(const uint8_t *image, size_t image_len, uint64_t *value);
+
+/* DSTOffsetListMaxSize: the window limit. */
+uint64_t timesync_dst_offset_list_max_size(const uint8_t *image, size_t image_len, uint64_t *value);
+
+/* TimeZoneDatabase: TIMESYNC_DATABASE_NONE. */
+uint64_t timesync_time_zone_database(const uint8_t *image, size_t image_len, uint64_t *value);
+
+/* How many changes of the lists there were, in 32 bits; after the largest it starts over. A load is not counted. */
+uint64_t timesync_generation(const uint8_t *image, size_t image_len, uint64_t *value);
+
+/* Whether some window is open or ends after the moment utc, started or not: 1 or 0. */
+uint64_t timesync_dst_usable(const uint8_t *image, size_t image_len, uint64_t utc, uint64_t *value);
+
+/* Whether there is no window at all: 1 or 0. */
+uint64_t timesync_dst_table_empty(const uint8_t *image, size_t image_len, uint64_t *value);
+
+/*
+ * TimeZone: the listed zone with this index. Its name is copied to the front of name, with no 0 behind it; *named is 1 where it has one
+ * and *name_len its length (a name of no bytes is a name). An empty list shows one zone: offset 0, start 0, no name.
+ * Refuses, in this order, with 8, 6, 2 (no such zone) and 9 (name is too short; TIMESYNC_NAME_MAX bytes always suffice).
+ */
+uint64_t timesync_time_zone(const uint8_t *image, size_t image_len, size_t index, uint8_t *name, size_t name_room, int32_t *offset,
+                            uint64_t *valid_at, uint64_t *named, uint64_t *name_len);
+
+/*
+ * DSTOffset: the window with this index. *closed is 1 and *valid_until its end, or both are 0 where it is open.
+ * Refuses, in this order, with 8, 6 and 2 (no such window).
+ */
+uint64_t timesync_dst_offset(const uint8_t *image, size_t image_len, size_t index, int32_t *offset, uint64_t *valid_starting,
+                             uint64_t *closed, uint64_t *valid_until);
+
+/*
+ * The zone that is active at the moment utc: the last that has started. Its name as with timesync_time_zone; with no zone offset 0 and no
+ * name. Refuses, in this order, with 8, 6 and 9.
+ */
+uint64_t timesync_active_time_zone(const uint8_t *image, size_t image_len, uint64_t utc, uint8_t *name, size_t name_room, int32_t *offset,
+                                   uint64_t *named, uint64_t *name_len);
+
+/* The offset of the window that is active at the moment utc: *there is 1 and *offset says it, or both are 0. Refuses with 8, 6. */
+uint64_t timesync_active_dst_offset(const uint8_t *image, size_t image_len, uint64_t utc, uint64_t *there, int32_t *offset);
+
+/* The smallest start or end after the moment utc: *there is 1 and *moment says it, or both are 0. Refuses with 8, 6. */
+uint64_t timesync_next_transition(const uint8_t *image, size_t image_len, uint64_t utc, uint64_t *there, uint64_t *moment);
+
+/*
+ * Walks from the moment start to the next transition until there is none. The moments are copied to the front of moments, 8 bytes each,
+ * little endian and ascending, start first: *steps + 1 of them. There are at most zone limit + 2 * window limit - 1 steps.
+ * Refuses, in this order, with 8, 6 and 9 (TIMESYNC_MOMENTS_MAX bytes always suffice).
+ */
+uint64_t timesync_walk(const uint8_t *image, size_t image_len, uint64_t start, uint8_t *moments, size_t moments_room, uint64_t *steps);
+
+/*
+ * The record of both lists, copied to the front of out, and its length in *used.
+ * Refuses, in this order, with 8, 6 and 9 (TIMESYNC_RECORD_MAX bytes always suffice).
+ */
+uint64_t timesync_record(const uint8_t *image, size_t image_len, uint8_t *out, size_t out_len, uint64_t *used);
+
+/* ======== The timer ======== */
+
+/*
+ * A look of the transition timer at a tick. It compares what it sees with what the last look saw, asks for the events that are due, writes
+ * down what it saw and says how long to sleep: *sleep is one of TIMESYNC_SLEEP_..., and *sleep_us the time where it is
+ * TIMESYNC_SLEEP_AT_MOST, else 0. Look again after that time and whenever an effect wakes the timer.
+ * Effects, each where it is due: emit TimeZoneStatus, emit DSTStatus, emit DSTTableEmpty.
+ * What TimeZoneStatus carries stands in *offset, *named, *name_len and at the front of name; what DSTStatus carries in *dst_active. Where
+ * the event is not due they are 0, and no byte of name changes.
+ * With no list store the look is taken, changes nothing and sleeps TIMESYNC_SLEEP_NEVER; on a clock that is not set it changes nothing and
+ * sleeps TIMESYNC_SLEEP_UNTIL_WOKEN.
+ * Refuses, in this order, with 8 and 9 (a name is to be emitted and name is too short): the timer has then not looked.
+ */
+uint64_t timesync_look(uint8_t *image, size_t image_len, uint64_t tick, uint8_t *name, size_t name_room, int32_t *offset, uint64_t *named,
+                       uint64_t *name_len, uint64_t *dst_active, uint64_t *sleep, uint64_t *sleep_us);
+
+/* ======== The client ======== */
+
+/*
+ * An attempt to get the time from the trusted time source, at a tick and with what the exchange brought: answered is 0 where it failed;
+ * else a moment and a granularity, each where its mark is not 0. A missing granularity and a number above 4 count as Seconds, Microseconds
+ * as Milliseconds; a missing moment and NoTime bring no time. Where the clock has no trusted time source, what was brought is not looked
+ * at.
+ * A time that was brought is set as by timesync_rtc_set_utc_time_persist with source NodeTimeCluster. The timer is not woken: look by
+ * yourself after a time was applied.
+ * *wait is one of TIMESYNC_WAIT_..., and *wait_us the time where it is TIMESYNC_WAIT_FOR, else 0.
+ * Effects: of an applied time report UTCTime, Granularity, TimeSource where it was kept, then store the moment utc_us where it is due; of
+ * no time emit MissingTrustedTimeSource (no source, or a failed exchange) and emit TimeFailure, each at most once in 3,600 s of ticks.
+ * Refuses with 8.
+ */
+uint64_t timesync_attempt(uint8_t *image, size_t image_len, uint8_t answered, uint8_t has_utc, uint64_t utc_us, uint8_t has_granularity,
+                          uint8_t granularity, uint64_t tick, uint64_t *wait, uint64_t *wait_us);
+
+/*
+ * The trusted time source has changed: the retries start over, and *wait says whether to make an attempt at once or to wait for a source.
+ * Call it after each TIMESYNC_WAKE_CLIENT, and where an attempt is under way after that attempt's answer. No effects. Refuses with 8.
+ */
+uint64_t timesync_source_changed(uint8_t *image, size_t image_len, uint64_t *wait, uint64_t *wait_us);
+
+/* ======== A whole history ======== */
+
+/*
+ * Makes a list store of these limits, runs the calls of a history on it and walks from the moment start; no image is needed. A history is
+ * calls one after the other: a kind (0 SetTimeZone, 1 SetDSTOffset, 2 load, 3 load without a record, 4 factory reset), and for the first
+ * three a length in 4 bytes, little endian, and so many bytes. A call that the store refuses is part of the history, and no refusal of
+ * this function.
+ * The moments and *steps as with timesync_walk, the record and *used as with timesync_record, and the generation.
+ * Refuses, in this order, with 8 (limits), 1 (bytes that are no history) and 9 (moments or out is too short).
+ */
+uint64_t timesync_replay(size_t zone_limit, size_t window_limit, const uint8_t *history, size_t history_len, uint64_t start,
+                         uint8_t *moments, size_t moments_room, uint64_t *steps, uint8_t *out, size_t out_len, uint64_t *used,
+                         uint64_t *generation);
+
+#ifdef __cplusplus
+}
+#endif
+
+#endif

@@ -1,0 +1,227 @@
+#!/usr/bin/env python3
+"""Changes a line of the Rust at a time, and looks whether `differ` notices.
+
+Copies this folder to target/bite, puts the given files there, and for each change below writes the
+changed file into the copy, builds it and runs `differ` at a small size. A change is noticed where differ
+ends with status 1 (a difference, or a panic of the changed Rust). Changes that no sequence of calls can
+show are marked as such, with the reason. Status 1 where another one is not noticed.
+
+Usage: bite.py [--only TEXT] [--sequences N]; TIMESYNC_LIB_DIR and GIVEN as in run.sh."""
+import os
+import pathlib
+import shutil
+import subprocess
+import sys
+import time
+
+HERE = pathlib.Path(__file__).resolve().parent
+GIVEN = pathlib.Path(os.environ.get("GIVEN", HERE.parent / "docs/src")).resolve()
+COPY = HERE / "target/bite/copy"
+FILES = {
+    "time_sync": ("rs-matter-dm/src/clusters/time_sync.rs", "dm/clusters/time_sync.rs"),
+    "client": ("rs-matter-dm/src/clusters/time_sync/client.rs", "dm/clusters/time_sync/client.rs"),
+    "rtc": ("rs-matter-node-core/src/rtc.rs", "rtc.rs"),
+    "fmt": ("rs-matter-dm/src/fmt.rs", "fmt.rs"),
+}
+
+S, C, R = "time_sync", "client", "rtc"
+CHANGES = [
+    # file, line, what it becomes, which of the equal lines (from 1), reason where nothing can show it
+    # ---- the list store
+    (S, ".rfind(|entry| entry.valid_at <= now)", ".find(|entry| entry.valid_at <= now)", 1),
+    (S, ".rfind(|entry| entry.valid_at <= now)", ".rfind(|entry| entry.valid_at < now)", 1),
+    (S, ".map(|entry| (entry.offset, entry.name.clone()))", ".map(|entry| (entry.offset, None))", 1),
+    (S, ".unwrap_or((0, None))", ".unwrap_or((1, None))", 1),
+    (S, "entry.valid_starting <= now", "entry.valid_starting < now", 1),
+    (S, "&& entry.valid_until.map(|until| now < until).unwrap_or(true)",
+     "&& entry.valid_until.map(|until| now <= until).unwrap_or(true)", 1),
+    (S, ".any(|entry| entry.valid_until.map(|until| now < until).unwrap_or(true))",
+     ".any(|entry| entry.valid_until.map(|until| now < until).unwrap_or(false))", 1),
+    (S, ".any(|entry| entry.valid_until.map(|until| now < until).unwrap_or(true))",
+     ".all(|entry| entry.valid_until.map(|until| now < until).unwrap_or(true))", 1),
+    (S, ".filter(|at| *at > now)", ".filter(|at| *at >= now)", 1),
+    (S, ".filter(|at| *at > now)", ".filter(|at| *at >= now)", 2),
+    (S, "(Some(a), Some(b)) => Some(a.min(b)),", "(Some(a), Some(b)) => Some(a.max(b)),", 1),
+    (S, "[Some(entry.valid_starting), entry.valid_until]", "[Some(entry.valid_starting), None]", 1),
+    (S, "if index == DST_OFFSET_MAX {", "if index == DST_OFFSET_MAX - 1 {", 1),
+    (S, "if index == DST_OFFSET_MAX {", "if index == DST_OFFSET_MAX + 1 {", 1),
+    (S, "if starting <= prev {", "if starting < prev {", 1,
+     "an equal start lies before the end of the window before, which is refused with the same number"),
+    (S, "if starting < until {", "if starting <= until {", 1),
+    (S, "if starting >= until {", "if starting > until {", 1),
+    (S, "None => seen_null_until = true,", "None => seen_null_until = false,", 1),
+    (S, "if index == TIME_ZONE_MAX {", "if index == TIME_ZONE_MAX + 1 {", 1),
+    (S, "return Err(ErrorCode::ResourceExhausted.into());", "return Err(ErrorCode::ConstraintError.into());", 2),
+    (S, "if (index == 0) != (valid_at == 0) {", "if (index == 0) && (valid_at != 0) {", 1,
+     "a later start of 0 is not above the one before, which is refused with the same number"),
+    (S, "if valid_at <= prev {", "if valid_at < prev {", 1),
+    (S, "if !(-12 * 3600..=14 * 3600).contains(&offset) {", "if !(-12 * 3600..14 * 3600).contains(&offset) {", 1),
+    (S, "if !(-12 * 3600..=14 * 3600).contains(&offset) {", "if !(-12 * 3600 - 1..=14 * 3600).contains(&offset) {", 1),
+    (S, "if name.len() > TIME_ZONE_NAME_MAX {", "if name.len() >= TIME_ZONE_NAME_MAX {", 1),
+    (S, "if name.len() > TIME_ZONE_NAME_MAX {", "if name.chars().count() > TIME_ZONE_NAME_MAX {", 1,
+     "what is longer in bytes than in characters fails with the same number when it is copied"),
+    (S, "state.data.dst_offset.clear();", "", 1),
+    (S, "state.data.dst_offset.clear();", "", 2),
+    (S, "state.generation = state.generation.wrapping_add(1);", "", 1),
+    (S, "state.generation = state.generation.wrapping_add(1);", "", 2),
+    (S, "state.generation = state.generation.wrapping_add(1);", "", 3),
+    (S, "state.generation = state.generation.wrapping_add(1);", "state.generation += 1;", 4),
+    (S, "self.note_changed();", "", 1),
+    (S, "self.note_changed();", "", 2),
+    (S, "self.note_changed();", "", 3),
+    (S, "self.changed.notify();", "", 2),
+    (S, "store.remove(TIME_ZONE_KEY, buf)?;", "", 1),
+    (S, "state.data = loaded;", "state.data = loaded; state.generation += 1;", 1),
+    (S, "state.data = TimeZoneStoreData::new();", "state.data.dst_offset.clear();", 1),
+    (S, "Ok(TimeZoneDatabaseEnum::None)", "Ok(TimeZoneDatabaseEnum::Partial)", 1),
+    (S, "Ok(TIME_ZONE_MAX as u8)", "Ok(TIME_ZONE_MAX as u8 + 1)", 1),
+    # ---- the handler
+    (S, "current = current.saturating_add(1);", "current = current.saturating_add(2);", 1),
+    (S, "store.note_changed();", "", 1),
+    (S, "store.store_persist(ctx.kv())?;", "", 2),
+    (S, "ctx.notify_own_attr_changed(AttributeId::TimeZone as _);", "", 1),
+    (S, "ctx.notify_own_attr_changed(AttributeId::TimeZone as _);\n        ctx.notify_own_attr_changed(AttributeId::DSTOffset as _);",
+     "ctx.notify_own_attr_changed(AttributeId::DSTOffset as _);\n        ctx.notify_own_attr_changed(AttributeId::TimeZone as _);", 1),
+    (S, "self.matter.notify_trusted_time_source_changed();", "", 1),
+    (S, "if entry.valid_at <= utc {", "if entry.valid_at < utc {", 1),
+    (S, "let unexpired = entry.valid_until.map(|u| utc < u).unwrap_or(true);",
+     "let unexpired = entry.valid_until.map(|u| utc <= u).unwrap_or(true);", 1),
+    (S, "if entry.valid_starting <= utc {", "if entry.valid_starting < utc {", 1),
+    (S, "if !usable {", "if active.is_none() {", 1),
+    (S, "offset_secs.saturating_mul(1_000_000),", "offset_secs.saturating_mul(1_000_001),", 1),
+    (S, "active = Some(entry.offset);", "active = active.or(Some(entry.offset));", 1,
+     "accepted windows do not overlap, so the first active one is the last"),
+    # ---- the timer
+    (S, "if last_tz.is_some() {", "if true {", 1),
+    (S, "if last_dst_active.is_some() || dst_active {", "if last_dst_active.is_some() {", 1),
+    (S, "if !dst_usable && last_dst_usable == Some(true) {", "if !dst_usable {", 1),
+    (S, "last_dst_usable = Some(dst_usable);", "last_dst_usable = Some(true);", 1),
+    (S, "let delta_us = at.saturating_sub(now).saturating_add(100_000);",
+     "let delta_us = at.saturating_sub(now).saturating_add(99_999);", 1),
+    (S, "let delta_us = at.saturating_sub(now).saturating_add(100_000);",
+     "let delta_us = at.saturating_sub(now).wrapping_add(100_000);", 1),
+    # ---- the clock
+    (R, "TimeGranularity::Microseconds => TimeGranularity::Milliseconds,",
+     "TimeGranularity::Microseconds => TimeGranularity::Microseconds,", 1),
+    (R, "_ => TimeGranularity::Minutes,", "_ => TimeGranularity::NoTime,", 1),
+    (R, "if changed || self.anchor.is_none() {", "if changed {", 1,
+     "a clock that is not set has granularity NoTime, which no setting takes"),
+    (R, "let changed = self.utc_us != utc_us || self.granularity != stepped || self.source != source;",
+     "let changed = self.utc_us != utc_us || self.granularity != stepped;", 1),
+    (R, "const GRANULARITY_ATTR_ID: AttrId = 0x01;", "const GRANULARITY_ATTR_ID: AttrId = 0x02;", 1),
+    (R, "if delta >= DELTA {", "if delta > DELTA {", 1),
+    (R, "const DELTA: u64 = 24 * 60 * 60 * 1_000_000;", "const DELTA: u64 = 25 * 60 * 60 * 1_000_000;", 1),
+    (R, "self.utc_us_persisted = utc_us;", "", 1),
+    (R, "self.utc_us_persisted = stored;", "self.utc_us_persisted = stored.max(floor);", 1),
+    (R, "self.utc_us = stored.max(floor);", "self.utc_us = stored;", 1),
+    (R, ".unwrap_or(0);", ".unwrap_or(1);", 1),
+    (R, "UtcTime::Reliable(self.utc_us.saturating_add(elapsed_us))", "UtcTime::Reliable(self.utc_us.wrapping_add(elapsed_us))", 1),
+    (R, "self.reset();", "", 2),
+    (R, "result.and(store.remove(TRUSTED_TIME_SOURCE_KEY, buf))", "result", 1),
+    (R, "if self.trusted_time_source.is_none() && previous.is_some() {", "if previous.is_some() {", 1),
+    (R, "persist.remove(TRUSTED_TIME_SOURCE_KEY)?;", "", 1),
+    (R, "if self.trusted_time_source.is_none() && previous.is_some() {", "if self.trusted_time_source.is_none() {", 1,
+     "a source that became none was one before"),
+    # ---- the client
+    (C, "pub const RETRY_MIN: Duration = Duration::from_secs(60);", "pub const RETRY_MIN: Duration = Duration::from_secs(61);", 1),
+    (C, "const TIME_EVENTS_INTERVAL: Duration = Duration::from_secs(60 * 60);",
+     "const TIME_EVENTS_INTERVAL: Duration = Duration::from_secs(60 * 60 + 1);", 1),
+    (C, ".is_none_or(|at| now.duration_since(at) >= TIME_EVENTS_INTERVAL);",
+     ".is_none_or(|at| now.duration_since(at) > TIME_EVENTS_INTERVAL);", 1),
+    (C, "let first_retry = RETRY_MIN.min(period);", "let first_retry = RETRY_MIN;", 1),
+    (C, "retry = first_retry;", "", 2),
+    (C, "retry = first_retry;", "", 3),
+    (C, "Ok(Refresh::NoSource) => None,", "Ok(Refresh::NoSource) => Some(period),", 1),
+    (C, "wait = None;", "", 1),
+    (C, "*retry = (*retry * 2).min(period);", "*retry = (*retry * 2).max(period);", 1),
+    (C, "let wait = *retry;\n    *retry = (*retry * 2).min(period);", "*retry = (*retry * 2).min(period);\n    let wait = *retry;", 1),
+    (C, "Ok(Refresh::NoTime) => (true, false),", "Ok(Refresh::NoTime) => (true, true),", 1),
+    (C, "Ok(Refresh::NoSource) | Err(_) => (true, true),", "Ok(Refresh::NoSource) | Err(_) => (true, false),", 1),
+    (C, "if no_source && hourly(&self.missing_source_at) {", "if no_source && hourly(&self.time_failure_at) {", 1),
+    (C, "at.set(Some(now));", "", 1),
+    (C, "GranularityEnum::MicrosecondsGranularity => GranularityEnum::MillisecondsGranularity,",
+     "GranularityEnum::MicrosecondsGranularity => GranularityEnum::MicrosecondsGranularity,", 1),
+    (C, "match granularity.unwrap_or(GranularityEnum::SecondsGranularity) {",
+     "match granularity.unwrap_or(GranularityEnum::MillisecondsGranularity) {", 1),
+    (C, "match granularity.unwrap_or(GranularityEnum::SecondsGranularity) {",
+     "match granularity.unwrap_or(GranularityEnum::MinutesGranularity) {", 1,
+     "the clock takes Seconds one step lower, as Minutes"),
+    (C, "TimeSource::NodeTimeCluster,", "TimeSource::Admin,", 1),
+    (C, "persist.run()?;", "", 1),
+    (C, "utc_time = Some(value?.into_option());", "utc_time = utc_time.or(Some(value?.into_option()));", 1),
+]
+
+
+def changed(text, old, new, which):
+    """The text with the change at one of the places of `old`, and the number of its line."""
+    at = -1
+    for _ in range(which):
+        at = text.index(old, at + 1)
+    return text[:at] + new + text[at + len(old):], text.count("\n", 0, at) + 1
+
+
+def put(name, text):
+    """Written even where it is equal: cargo goes by the time of a file."""
+    target = COPY / "oracle/src" / FILES[name][1]
+    target.parent.mkdir(parents=True, exist_ok=True)
+    target.write_text(text)
+
+
+def shown(text):
+    return " / ".join(line.strip() for line in text.splitlines()) or "(dropped)"
+
+
+def main():
+    words = sys.argv[1:]
+    only = words[words.index("--only") + 1] if "--only" in words else ""
+    sequences = words[words.index("--sequences") + 1] if "--sequences" in words else "3000"
+    COPY.parent.mkdir(parents=True, exist_ok=True)
+    shutil.copytree(HERE, COPY, ignore=shutil.ignore_patterns("target"), dirs_exist_ok=True)
+    texts = {name: (GIVEN / path).read_text() for name, (path, _) in FILES.items()}
+    environment = dict(os.environ, CARGO_TARGET_DIR=str(HERE / "target/bite/build"))
+    environment.setdefault("TIMESYNC_LIB_DIR", str(HERE.parent / "target/staticlib"))
+
+    def ask():
+        """Whether it builds, and then the status and the output of differ."""
+        build = subprocess.run(["cargo", "build", "--offline", "--profile", "bite", "-p", "differ"], cwd=COPY, env=environment,
+                               capture_output=True, text=True)
+        if build.returncode:
+            return None, build.stderr
+        try:
+            run = subprocess.run([HERE / "target/bite/build/bite/differ", "1", "24", sequences], capture_output=True, text=True,
+                                 timeout=600)
+        except subprocess.TimeoutExpired:
+            return 1, "difference: it does not end"
+        return run.returncode, run.stdout
+
+    for name in FILES:
+        put(name, texts[name])
+    status, output = ask()
+    print(f"unchanged: {'no difference' if status == 0 else 'NOT USABLE'}", flush=True)
+    if status != 0:
+        sys.exit(output)
+    count = {"noticed": 0, "equivalent": 0, "NOT NOTICED": 0, "NOT BUILT": 0}
+    begun = time.time()
+    for name, old, new, which, *reason in CHANGES:
+        text, line = changed(texts[name], old, new, which)
+        if only not in f"{name}.rs:{line} {old}":
+            continue
+        put(name, text)
+        status, output = ask()
+        put(name, texts[name])
+        if status is None:
+            verdict, why = "NOT BUILT", "; ".join(l for l in output.splitlines() if l.startswith("error"))[:200]
+        elif status:
+            verdict = "noticed"
+            why = next((l for l in output.splitlines() if l.startswith("made smaller")), output[:120]).removeprefix("made smaller: ")
+        elif reason:
+            verdict, why = "equivalent", reason[0]
+        else:
+            verdict, why = "NOT NOTICED", ""
+        count[verdict] += 1
+        print(f"{verdict:11} | {name}.rs:{line} | {shown(old)} -> {shown(new)} | {why[:160]}", flush=True)
+    print(", ".join(f"{n} {verdict}" for verdict, n in count.items()), f"in {time.time() - begun:.0f} s")
+    sys.exit(1 if count["NOT NOTICED"] or count["NOT BUILT"] else 0)
+
+
+main()

@@ -1,0 +1,348 @@
+//! Random steps, most of them near a boundary of what the lists, the clock and the loops hold.
+use oracle::driver::{Outcome, Part, WindowArg, ZoneArg};
+
+use crate::bytes;
+use crate::world::{Item, Kind, Step, World};
+
+pub const TOP: u64 = u64::MAX;
+pub const SECOND: u64 = 1_000_000;
+pub const HOUR: u64 = 3600 * SECOND;
+pub const DAY: u64 = 24 * HOUR;
+const NOW: u64 = 800_000_000 * SECOND;
+
+/// splitmix64
+#[derive(Clone)]
+pub struct Rng(u64);
+
+impl Rng {
+    pub fn new(seed: u64, sequence: u64) -> Self {
+        let mut rng = Self(seed.wrapping_mul(0x9E37_79B9_7F4A_7C15) ^ sequence.wrapping_mul(0xD1B5_4A32_D192_ED03));
+        rng.next();
+        rng
+    }
+    pub fn next(&mut self) -> u64 {
+        self.0 = self.0.wrapping_add(0x9E37_79B9_7F4A_7C15);
+        let mut z = self.0;
+        z = (z ^ z >> 30).wrapping_mul(0xBF58_476D_1CE4_E5B9);
+        z = (z ^ z >> 27).wrapping_mul(0x94D0_49BB_1331_11EB);
+        z ^ z >> 31
+    }
+    pub fn below(&mut self, n: u64) -> u64 {
+        self.next() % n
+    }
+    pub fn pick<T: Clone>(&mut self, of: &[T]) -> T {
+        of[self.below(of.len() as u64) as usize].clone()
+    }
+    pub fn one_in(&mut self, n: u64) -> bool {
+        self.below(n) == 0
+    }
+    /// A number, or one beside it
+    fn near(&mut self, n: u64) -> u64 {
+        match self.below(4) {
+            0 => n.saturating_sub(1),
+            1 => n.saturating_add(1),
+            _ => n,
+        }
+    }
+}
+
+pub fn moment(rng: &mut Rng, world: &World) -> u64 {
+    match rng.below(10) {
+        0..=3 => rng.below(7),
+        4..=6 => {
+            let bounds = world.boundaries();
+            let bound = rng.pick(&bounds);
+            rng.near(bound)
+        }
+        7 => {
+            let n = rng.pick(&[0, 1, 2, TOP, TOP - 1, TOP - 100_000, TOP / 2, DAY, NOW, HOUR]);
+            rng.near(n)
+        }
+        _ => NOW + rng.below(5),
+    }
+}
+
+fn zone_offset(rng: &mut Rng) -> i32 {
+    rng.pick(&[-43_200, -43_199, -3600, -1, 0, 0, 1, 3600, 7200, 50_399, 50_400])
+}
+
+fn name(rng: &mut Rng) -> Option<String> {
+    match rng.below(10) {
+        0..=4 => None,
+        5 => Some(String::new()),
+        6 => Some("CET".into()),
+        7 => Some("Zürich €".into()),
+        8 => Some("n".repeat(63)),
+        _ => Some(rng.pick(&["é".repeat(32), "n".repeat(64), "𝄞".repeat(16)])),
+    }
+}
+
+/// A list that mostly is accepted; one in three has one fault
+pub fn zones(rng: &mut Rng, world: &World, limit: usize) -> Vec<ZoneArg> {
+    let count = match rng.below(6) {
+        0 => limit,
+        1 => rng.below(limit as u64 + 2) as usize,
+        2 => limit.min(2),
+        _ => rng.below(limit as u64 + 1) as usize,
+    };
+    let mut start = 0u64;
+    let mut list = Vec::new();
+    for i in 0..count {
+        list.push(ZoneArg { offset: zone_offset(rng), valid_at: start, name: name(rng) });
+        start = match i {
+            0 => moment(rng, world).max(1),
+            _ => start.saturating_add(rng.pick(&[1, 1, 2, 5, 100_000, HOUR])),
+        };
+    }
+    if !list.is_empty() && rng.one_in(3) {
+        let at = rng.below(list.len() as u64) as usize;
+        let before = if at == 0 { 0 } else { list[at - 1].valid_at };
+        match rng.below(6) {
+            0 => list[at].valid_at = before,
+            1 => list[at].valid_at = before.saturating_sub(1),
+            2 => list[at].valid_at = rng.pick(&[0, 1]),
+            3 => list[at].offset = rng.pick(&[-43_201, 50_401, i32::MIN, i32::MAX]),
+            4 => list[at].name = Some("n".repeat(rng.pick(&[65, 65, 66, 255]))),
+            _ => list.push(ZoneArg { offset: 0, valid_at: start, name: None }),
+        }
+    }
+    list
+}
+
+pub fn windows(rng: &mut Rng, world: &World, limit: usize) -> Vec<WindowArg> {
+    let count = match rng.below(6) {
+        0 => limit,
+        1 => rng.below(limit as u64 + 2) as usize,
+        2 => limit.min(2),
+        _ => rng.below(limit as u64 + 1) as usize,
+    };
+    let mut start = moment(rng, world);
+    let mut list = Vec::new();
+    for _ in 0..count {
+        let until = match rng.below(8) {
+            0 => moment(rng, world).max(start.saturating_add(1)),
+            _ => start.saturating_add(rng.pick(&[1, 1, 2, 3, 100_000, HOUR])),
+        };
+        let offset = rng.pick(&[0, 3600, 3600, 7200, -3600, i32::MIN, i32::MAX]);
+        list.push(WindowArg { offset, valid_starting: start, valid_until: Some(until) });
+        start = until.saturating_add(rng.pick(&[0, 0, 1, 5, HOUR]));
+    }
+    if let Some(last) = list.last_mut() {
+        if rng.one_in(3) {
+            last.valid_until = None;
+        }
+    }
+    if !list.is_empty() && rng.one_in(3) {
+        let at = rng.below(list.len() as u64) as usize;
+        let before = at.checked_sub(1).map(|i| list[i].clone());
+        match rng.below(6) {
+            0 => list[at].valid_until = Some(list[at].valid_starting),
+            1 => list[at].valid_until = Some(list[at].valid_starting.saturating_sub(1)),
+            2 => list[at].valid_until = None,
+            3 => list[at].valid_starting = before.map_or(0, |b| b.valid_starting),
+            4 => list[at].valid_starting = before.and_then(|b| b.valid_until).unwrap_or(1).saturating_sub(1),
+            _ => list.push(WindowArg { offset: 0, valid_starting: start, valid_until: None }),
+        }
+    }
+    list
+}
+
+/// Bytes with one place damaged
+pub fn damaged(rng: &mut Rng, mut bytes: Vec<u8>) -> Vec<u8> {
+    let at = rng.below(bytes.len().max(1) as u64) as usize;
+    match rng.below(7) {
+        0 => bytes.truncate(at),
+        1 => drop(bytes.pop()),
+        2 => bytes.push(rng.pick(&[0, 1, 255])),
+        3 if !bytes.is_empty() => bytes[0] = bytes[0].wrapping_add(rng.pick(&[1, 255])),
+        4 if !bytes.is_empty() => bytes[at] = rng.pick(&[0, 1, 2, 0x80, 0xC0, 0xFF]),
+        5 if !bytes.is_empty() => drop(bytes.remove(at)),
+        _ if !bytes.is_empty() => bytes[at] ^= 1 << rng.below(8),
+        _ => {}
+    }
+    bytes
+}
+
+fn maybe_damaged(rng: &mut Rng, bytes: Vec<u8>) -> Vec<u8> {
+    if rng.one_in(6) {
+        damaged(rng, bytes)
+    } else {
+        bytes
+    }
+}
+
+pub fn list_step(rng: &mut Rng, world: &World) -> Step {
+    let (z, w) = world.kind.limits().unwrap_or((2, 2));
+    match rng.below(16) {
+        0..=4 => {
+            let list = bytes::zones(&zones(rng, world, z));
+            Step::Zones(maybe_damaged(rng, list))
+        }
+        5..=11 => {
+            let list = bytes::windows(&windows(rng, world, w));
+            Step::Windows(maybe_damaged(rng, list))
+        }
+        12..=13 => {
+            let record = bytes::record(&zones(rng, world, z), &windows(rng, world, w));
+            Step::Load(Some(maybe_damaged(rng, record)))
+        }
+        14 => Step::Load(None),
+        _ => Step::Reset,
+    }
+}
+
+fn tick(rng: &mut Rng, world: &World) -> u64 {
+    let now = world.tick;
+    match rng.below(12) {
+        0..=3 => {
+            // where the clock reads a boundary, or one beside it
+            let (utc, anchor) = (world.port.word(24, 8), world.port.word(40, 8));
+            let bounds = world.boundaries();
+            let bound = rng.pick(&bounds);
+            let at = anchor.saturating_add(bound.saturating_sub(utc));
+            rng.near(at)
+        }
+        4..=6 => {
+            let due = rng.pick(&world.dues()).unwrap_or(now);
+            rng.near(due)
+        }
+        7 => now.saturating_add(rng.pick(&[1, 60 * SECOND, HOUR - 1, HOUR, HOUR + 1, 2 * HOUR])),
+        8 => {
+            // an hour after a mark of the client, or one beside it; sometimes before it
+            let mark = world.port.word(rng.pick(&[72, 80]), 8);
+            let at = mark.saturating_add(HOUR);
+            if rng.one_in(6) {
+                mark.saturating_sub(1)
+            } else {
+                rng.near(at)
+            }
+        }
+        9 => now.saturating_add(rng.below(4)),
+        10 => now.saturating_add(100_000),
+        _ => match rng.below(12) {
+            0 => rng.pick(&[TOP, TOP - 1]),
+            1 => rng.pick(&[0, 1]),
+            _ => now.saturating_add(rng.below(DAY)),
+        },
+    }
+}
+
+fn outcome(rng: &mut Rng, world: &World) -> Outcome {
+    match rng.below(10) {
+        0 => Outcome::NoSession,
+        1 => Outcome::NoAnswer,
+        _ => {
+            let parts = (0..rng.pick(&[1, 1, 1, 1, 2, 3, 0]))
+                .map(|_| Part {
+                    utc: match rng.below(8) {
+                        0 => None,
+                        1 => Some(Err(())),
+                        2 => Some(Ok(None)),
+                        3 => Some(Ok(Some(rng_day(rng, world)))),
+                        _ => Some(Ok(Some(moment(rng, world)))),
+                    },
+                    granularity: match rng.below(8) {
+                        0 => None,
+                        1 => Some(Err(())),
+                        2 => Some(Ok(rng.pick(&[0, 5, 255]))),
+                        _ => Some(Ok(rng.below(5) as u8)),
+                    },
+                })
+                .collect();
+            Outcome::Answer(parts, rng.one_in(10))
+        }
+    }
+}
+
+/// About a day from the persisted moment, or the UTC number that the clock holds
+fn rng_day(rng: &mut Rng, world: &World) -> u64 {
+    let persisted = world.port.word(32, 8);
+    let n = rng.pick(&[persisted.saturating_add(DAY), persisted.saturating_sub(DAY), persisted, world.port.word(24, 8)]);
+    rng.near(n)
+}
+
+fn stored_source(rng: &mut Rng) -> Option<(u8, u64, u16)> {
+    match rng.below(3) {
+        0 => None,
+        _ => Some((rng.pick(&[0, 1, 2, 255]), rng.pick(&[0, 1, 7, TOP]), rng.pick(&[0, 1, u16::MAX]))),
+    }
+}
+
+pub fn step(rng: &mut Rng, world: &World) -> Step {
+    let lists_only = matches!(world.kind, Kind::Lists(..));
+    // the loops go on where they are due
+    let [timer, client] = world.dues();
+    match (timer, client) {
+        (_, Some(due)) if due <= world.tick && rng.one_in(2) => return Step::Client(outcome(rng, world)),
+        (Some(due), _) if due <= world.tick && rng.one_in(2) => return Step::Look,
+        (_, Some(due)) if due > world.tick && rng.one_in(6) => return Step::Tick(due),
+        (Some(due), _) if due > world.tick && rng.one_in(10) => return Step::Tick(due),
+        _ => {}
+    }
+    match rng.below(if lists_only { 20 } else { 40 }) {
+        0..=9 => list_step(rng, world),
+        10..=14 => Step::Tick(tick(rng, world)),
+        15..=17 => {
+            let utc = if rng.one_in(4) { rng_day(rng, world) } else { moment(rng, world) };
+            let g = if rng.one_in(12) { rng.pick(&[5, 6, 255]) } else { rng.below(5) as u8 };
+            let source = rng.pick(&[None, None, None, None, Some(0), Some(2), Some(16), Some(17), Some(255)]);
+            Step::Utc(utc, g, source)
+        }
+        18 => Step::Generation(rng.pick(&[0, 1, u32::MAX, u32::MAX - 1])),
+        19 => {
+            let g = if rng.one_in(12) { 5 } else { rng.below(5) as u8 };
+            let s = if rng.one_in(12) { 17 } else { rng.below(17) as u8 };
+            let utc = if rng.one_in(2) { rng_day(rng, world) } else { moment(rng, world) };
+            Step::Set(rng.one_in(2), utc, g, s)
+        }
+        20..=25 => Step::Look,
+        26..=33 => Step::Client(outcome(rng, world)),
+        34..=36 => {
+            let named = (!rng.one_in(3)).then(|| (rng.pick(&[0, 1, 7, TOP]), rng.pick(&[0, 1, u16::MAX])));
+            Step::Source(rng.pick(&[0, 1, 1, 2, 255]), named)
+        }
+        37 => {
+            let g = rng.below(6) as u8;
+            Step::Set(true, rng_day(rng, world), g, rng.below(18) as u8)
+        }
+        38 => {
+            let build = rng.pick(&[0, 10, NOW, TOP]);
+            let stored = match rng.below(3) {
+                0 => None,
+                1 => Some(rng.near(build)),
+                _ => Some(moment(rng, world)),
+            };
+            Step::LoadClock(build, stored, stored_source(rng))
+        }
+        _ => {
+            if rng.one_in(2) {
+                Step::ResetClock(rng.pick(&[0, 10, NOW, TOP]))
+            } else {
+                Step::Look
+            }
+        }
+    }
+}
+
+pub fn item(rng: &mut Rng, world: &World) -> Item {
+    let step = step(rng, world);
+    let mut probes: Vec<u64> = (0..3).map(|_| moment(rng, world)).collect();
+    // the boundaries that the step brings
+    match &step {
+        Step::Zones(b) => {
+            if let Some(z) = bytes::read_zones(b).filter(|l| !l.is_empty()) {
+                let n = rng.pick(&z).valid_at;
+                probes.insert(0, rng.near(n));
+            }
+        }
+        Step::Windows(b) => {
+            if let Some(w) = bytes::read_windows(b).filter(|l| !l.is_empty()) {
+                let w = rng.pick(&w);
+                let n = w.valid_until.filter(|_| rng.one_in(2)).unwrap_or(w.valid_starting);
+                probes.insert(0, rng.near(n));
+            }
+        }
+        _ => {}
+    }
+    Item { step, probes, short: rng.one_in(6) }
+}

@@ -1,0 +1,405 @@
+//! The port as the driver sees it: an image between guard bytes, and a call for each function.
+//!
+//! Every output is lent with a pattern in it. On a refusal the pattern must still be there, and past what
+//! is copied it must still be there too; where it is not, `spoiled` says which call did it.
+use crate::ffi;
+
+pub const IMAGE: usize = 1120;
+pub const RECORD_MAX: usize = 962;
+pub const MOMENTS_MAX: usize = 328;
+const GUARD: usize = 16;
+const FILL: u8 = 0xA5;
+const NUMBER: u64 = 0xA5A5_5A5A_0F0F_F0F0;
+const SIGNED: i32 = 0x5A5A_0F0F;
+
+/// The number of a refusal, or a value
+pub type Answer<T> = Result<T, u64>;
+
+/// What a call that changes an image returned: its number and the codes of its effects
+#[derive(Debug, Clone, PartialEq, Eq)]
+pub struct Returned {
+    pub answer: u64,
+    pub effects: Vec<u8>,
+}
+
+impl Returned {
+    fn new(value: u64) -> Self {
+        let bytes = value.to_le_bytes();
+        let effects = bytes[1..].iter().copied().take_while(|code| *code != 0).collect();
+        Self { answer: bytes[0].into(), effects }
+    }
+}
+
+#[derive(Clone)]
+pub struct Port {
+    bytes: Vec<u8>,
+    /// The length of the slice that is lent: an image's, or a little more
+    lent: usize,
+    /// The first call that wrote what it must not write
+    pub spoiled: std::cell::Cell<Option<&'static str>>,
+}
+
+#[derive(Debug, Clone, PartialEq, Eq)]
+pub struct LookTold {
+    pub offset: i32,
+    pub name: Option<Vec<u8>>,
+    pub dst_active: bool,
+    pub sleep: (u64, u64),
+}
+
+#[derive(Debug, Clone, PartialEq, Eq)]
+pub struct Replayed {
+    pub moments: Vec<u64>,
+    pub record: Vec<u8>,
+    pub generation: u64,
+}
+
+/// A slice that is copied into: `room` bytes, and guard bytes past them
+struct Lent {
+    bytes: [u8; 1024],
+    room: usize,
+}
+
+impl Lent {
+    fn new(room: usize) -> Self {
+        Self { bytes: [FILL; 1024], room }
+    }
+    fn ptr(&mut self) -> *mut u8 {
+        self.bytes.as_mut_ptr()
+    }
+    /// Whether nothing was written from `used` on
+    fn clean(&self, used: usize) -> bool {
+        used <= self.room && self.bytes[used..(self.room + GUARD).min(1024)].iter().all(|b| *b == FILL)
+    }
+    fn front(&self, used: usize) -> Vec<u8> {
+        self.bytes[..used.min(self.room)].to_vec()
+    }
+}
+
+fn moments(bytes: &[u8]) -> Vec<u64> {
+    bytes.chunks(8).map(|c| c.iter().rev().fold(0, |n, b| n << 8 | u64::from(*b))).collect()
+}
+
+impl Port {
+    /// A new image with a list store of these limits, or without one
+    pub fn new(limits: Option<(usize, usize)>, build: u64, period: u64) -> Self {
+        let (zones, windows) = limits.unwrap_or((0, 0));
+        let lent = IMAGE + (zones + windows) % 3 * 4;
+        let mut port = Self { bytes: vec![FILL; IMAGE + 2 * GUARD], lent, spoiled: Default::default() };
+        let r = unsafe { ffi::timesync_new(port.at(), lent, limits.is_some().into(), zones, windows, build, period) };
+        assert_eq!(r, 0, "an image at {limits:?} is refused");
+        port
+    }
+    fn at(&mut self) -> *mut u8 {
+        self.bytes[GUARD..].as_mut_ptr()
+    }
+    fn to(&self) -> *const u8 {
+        self.bytes[GUARD..].as_ptr()
+    }
+    pub fn image(&self) -> &[u8] {
+        &self.bytes[GUARD..GUARD + IMAGE]
+    }
+    pub fn poke(&mut self, at: usize, bytes: &[u8]) {
+        self.bytes[GUARD + at..GUARD + at + bytes.len()].copy_from_slice(bytes);
+    }
+    pub fn word(&self, at: usize, n: usize) -> u64 {
+        self.image()[at..at + n].iter().rev().fold(0, |v, b| v << 8 | u64::from(*b))
+    }
+    /// Whether the bytes around the image are as they were
+    pub fn guarded(&self) -> bool {
+        self.bytes[..GUARD].iter().chain(&self.bytes[GUARD + IMAGE..]).all(|b| *b == FILL)
+    }
+    fn note(&self, call: &'static str, good: bool) {
+        if !good && self.spoiled.get().is_none() {
+            self.spoiled.set(Some(call));
+        }
+    }
+
+    // Calls with effects
+
+    pub fn set_utc_time(&mut self, utc: u64, granularity: u8, source: Option<u8>, tick: u64) -> Returned {
+        Returned::new(unsafe {
+            ffi::timesync_set_utc_time(self.at(), self.lent, utc, granularity, source.is_some().into(), source.unwrap_or(0xEE), tick)
+        })
+    }
+    pub fn set_source(&mut self, fab: u8, named: Option<(u64, u16)>) -> Returned {
+        let (node, endpoint) = named.unwrap_or((NUMBER, 0xA5A5));
+        Returned::new(unsafe { ffi::timesync_set_trusted_time_source(self.at(), self.lent, fab, named.is_some().into(), node, endpoint) })
+    }
+    /// SetTimeZone or SetDSTOffset; the record to store where it is to be stored
+    pub fn set_list(&mut self, zones: bool, request: &[u8], room: usize) -> (Returned, Option<Vec<u8>>) {
+        let mut out = Lent::new(room);
+        let mut used = NUMBER;
+        let call = if zones { ffi::timesync_set_time_zone } else { ffi::timesync_set_dst_offset };
+        let r = Returned::new(unsafe { call(self.at(), self.lent, request.as_ptr(), request.len(), out.ptr(), room, &mut used) });
+        if r.answer != 0 {
+            self.note("SetTimeZone or SetDSTOffset, refused", used == NUMBER && out.clean(0));
+            return (r, None);
+        }
+        self.note("SetTimeZone or SetDSTOffset", used <= room as u64 && out.clean(used as usize));
+        (r, Some(out.front(used as usize)))
+    }
+    pub fn load_lists(&mut self, stored: Option<&[u8]>) -> Returned {
+        let bytes = stored.unwrap_or(&[FILL; 3]);
+        Returned::new(unsafe { ffi::timesync_load_lists(self.at(), self.lent, stored.is_some().into(), bytes.as_ptr(), bytes.len()) })
+    }
+    pub fn reset_lists(&mut self) -> Returned {
+        Returned::new(unsafe { ffi::timesync_reset_lists(self.at(), self.lent) })
+    }
+    pub fn load_clock(&mut self, build: u64, moment: Option<u64>, source: Option<(u8, u64, u16)>) -> Returned {
+        let (fab, node, endpoint) = source.unwrap_or((0, NUMBER, 0xA5A5));
+        Returned::new(unsafe {
+            ffi::timesync_load_clock(
+                self.at(),
+                self.lent,
+                build,
+                moment.is_some().into(),
+                moment.unwrap_or(NUMBER),
+                source.is_some().into(),
+                fab,
+                node,
+                endpoint,
+            )
+        })
+    }
+    pub fn reset_clock(&mut self, build: u64) -> Returned {
+        Returned::new(unsafe { ffi::timesync_reset_clock(self.at(), self.lent, build) })
+    }
+    /// What was returned, and whether something changed
+    pub fn rtc_set(&mut self, persist: bool, utc: u64, granularity: u8, source: u8, tick: u64) -> (Returned, Option<u64>) {
+        let mut changed = NUMBER;
+        let call = if persist { ffi::timesync_rtc_set_utc_time_persist } else { ffi::timesync_rtc_set_utc_time };
+        let r = Returned::new(unsafe { call(self.at(), self.lent, utc, granularity, source, tick, &mut changed) });
+        if r.answer != 0 {
+            self.note("a setting of the clock, refused", changed == NUMBER);
+            return (r, None);
+        }
+        (r, Some(changed))
+    }
+    pub fn look(&mut self, tick: u64, room: usize) -> (Returned, Option<LookTold>) {
+        let mut name = Lent::new(room);
+        let mut offset = SIGNED;
+        let mut out = [NUMBER; 5];
+        let [named, name_len, active, sleep, sleep_us] = &mut out;
+        let r = Returned::new(unsafe {
+            ffi::timesync_look(self.at(), self.lent, tick, name.ptr(), room, &mut offset, named, name_len, active, sleep, sleep_us)
+        });
+        if r.answer != 0 {
+            self.note("a look, refused", out == [NUMBER; 5] && offset == SIGNED && name.clean(0));
+            return (r, None);
+        }
+        let [named, name_len, active, sleep, sleep_us] = out;
+        self.note("a look", named <= 1 && active <= 1 && name_len <= room as u64 && name.clean(name_len as usize));
+        let name = (named == 1).then(|| name.front(name_len as usize));
+        (r, Some(LookTold { offset, name, dst_active: active == 1, sleep: (sleep, sleep_us) }))
+    }
+    /// What was returned, and the wait by its kind and time
+    pub fn attempt(&mut self, answered: bool, utc: Option<u64>, granularity: Option<u8>, tick: u64) -> (Returned, (u64, u64)) {
+        let (mut wait, mut wait_us) = (NUMBER, NUMBER);
+        let r = Returned::new(unsafe {
+            ffi::timesync_attempt(
+                self.at(),
+                self.lent,
+                answered.into(),
+                utc.is_some().into(),
+                utc.unwrap_or(NUMBER),
+                granularity.is_some().into(),
+                granularity.unwrap_or(3),
+                tick,
+                &mut wait,
+                &mut wait_us,
+            )
+        });
+        (r, (wait, wait_us))
+    }
+    pub fn source_changed(&mut self) -> (Returned, (u64, u64)) {
+        let (mut wait, mut wait_us) = (NUMBER, NUMBER);
+        let r = Returned::new(unsafe { ffi::timesync_source_changed(self.at(), self.lent, &mut wait, &mut wait_us) });
+        (r, (wait, wait_us))
+    }
+
+    // Readings
+
+    fn numbers<const N: usize>(&self, call: &'static str, f: impl FnOnce(*const u8, &mut [u64; N]) -> u64) -> Answer<[u64; N]> {
+        let mut out = [NUMBER; N];
+        match f(self.to(), &mut out) {
+            0 => Ok(out),
+            r => {
+                self.note(call, out == [NUMBER; N]);
+                Err(r)
+            }
+        }
+    }
+    fn number(&self, call: &'static str, f: unsafe extern "C" fn(*const u8, usize, *mut u64) -> u64) -> Answer<u64> {
+        self.numbers(call, |image, [value]: &mut [u64; 1]| unsafe { f(image, self.lent, value) }).map(|[value]| value)
+    }
+    pub fn utc_time(&self, tick: u64) -> Answer<(u64, bool)> {
+        let [reliable, utc] = self.numbers("utc_time", |s, [a, b]| unsafe { ffi::timesync_utc_time(s, self.lent, tick, a, b) })?;
+        self.note("utc_time", reliable <= 1);
+        Ok((utc, reliable == 1))
+    }
+    pub fn granularity(&self) -> Answer<u64> {
+        self.number("granularity", ffi::timesync_utc_time_granularity)
+    }
+    pub fn source(&self) -> Answer<u64> {
+        self.number("source", ffi::timesync_utc_time_source)
+    }
+    pub fn trusted(&self) -> Answer<Option<(u8, u64, u16)>> {
+        let [there, fab, node, endpoint] =
+            self.numbers("trusted_time_source", |s, [a, b, c, d]| unsafe { ffi::timesync_trusted_time_source(s, self.lent, a, b, c, d) })?;
+        self.note("trusted_time_source", there == 1 || [there, fab, node, endpoint] == [0; 4]);
+        Ok((there == 1).then_some((fab as u8, node, endpoint as u16)))
+    }
+    fn maybe(&self, call: &'static str, [there, value]: [u64; 2]) -> Option<u64> {
+        self.note(call, there == 1 || [there, value] == [0; 2]);
+        (there == 1).then_some(value)
+    }
+    pub fn local_time(&self, tick: u64) -> Answer<Option<u64>> {
+        let r = self.numbers("local_time", |s, [a, b]| unsafe { ffi::timesync_local_time(s, self.lent, tick, a, b) })?;
+        Ok(self.maybe("local_time", r))
+    }
+    pub fn zone_count(&self) -> Answer<u64> {
+        self.number("time_zone_count", ffi::timesync_time_zone_count)
+    }
+    pub fn window_count(&self) -> Answer<u64> {
+        self.number("dst_offset_count", ffi::timesync_dst_offset_count)
+    }
+    pub fn zone_limit(&self) -> Answer<u64> {
+        self.number("time_zone_list_max_size", ffi::timesync_time_zone_list_max_size)
+    }
+    pub fn window_limit(&self) -> Answer<u64> {
+        self.number("dst_offset_list_max_size", ffi::timesync_dst_offset_list_max_size)
+    }
+    pub fn database(&self) -> Answer<u64> {
+        self.number("time_zone_database", ffi::timesync_time_zone_database)
+    }
+    pub fn generation(&self) -> Answer<u64> {
+        self.number("generation", ffi::timesync_generation)
+    }
+    pub fn table_empty(&self) -> Answer<u64> {
+        self.number("dst_table_empty", ffi::timesync_dst_table_empty)
+    }
+    pub fn usable(&self, utc: u64) -> Answer<u64> {
+        self.numbers("dst_usable", |s, [a]: &mut [u64; 1]| unsafe { ffi::timesync_dst_usable(s, self.lent, utc, a) }).map(|[v]| v)
+    }
+    pub fn zone(&self, index: usize, room: usize) -> Answer<(i32, u64, Option<Vec<u8>>)> {
+        let mut name = Lent::new(room);
+        let mut offset = SIGNED;
+        let r = self.numbers("time_zone", |s, [a, b, c]| unsafe {
+            ffi::timesync_time_zone(s, self.lent, index, name.ptr(), room, &mut offset, a, b, c)
+        });
+        match r {
+            Err(e) => {
+                self.note("time_zone, refused", offset == SIGNED && name.clean(0));
+                Err(e)
+            }
+            Ok([start, named, len]) => {
+                self.note("time_zone", named <= 1 && len <= room as u64 && name.clean(len as usize));
+                Ok((offset, start, (named == 1).then(|| name.front(len as usize))))
+            }
+        }
+    }
+    pub fn window(&self, index: usize) -> Answer<(i32, u64, Option<u64>)> {
+        let mut offset = SIGNED;
+        let r = self.numbers("dst_offset", |s, [a, b, c]| unsafe { ffi::timesync_dst_offset(s, self.lent, index, &mut offset, a, b, c) });
+        match r {
+            Err(e) => {
+                self.note("dst_offset, refused", offset == SIGNED);
+                Err(e)
+            }
+            Ok([start, closed, until]) => Ok((offset, start, self.maybe("dst_offset", [closed, until]))),
+        }
+    }
+    pub fn active_zone(&self, utc: u64, room: usize) -> Answer<(i32, Option<Vec<u8>>)> {
+        let mut name = Lent::new(room);
+        let mut offset = SIGNED;
+        let r = self.numbers("active_time_zone", |s, [a, b]| unsafe {
+            ffi::timesync_active_time_zone(s, self.lent, utc, name.ptr(), room, &mut offset, a, b)
+        });
+        match r {
+            Err(e) => {
+                self.note("active_time_zone, refused", offset == SIGNED && name.clean(0));
+                Err(e)
+            }
+            Ok([named, len]) => {
+                self.note("active_time_zone", named <= 1 && len <= room as u64 && name.clean(len as usize));
+                Ok((offset, (named == 1).then(|| name.front(len as usize))))
+            }
+        }
+    }
+    pub fn active_window(&self, utc: u64) -> Answer<Option<i32>> {
+        let mut offset = SIGNED;
+        let r = self.numbers("active_dst_offset", |s, [a]: &mut [u64; 1]| unsafe {
+            ffi::timesync_active_dst_offset(s, self.lent, utc, a, &mut offset)
+        });
+        match r {
+            Err(e) => {
+                self.note("active_dst_offset, refused", offset == SIGNED);
+                Err(e)
+            }
+            Ok([there]) => {
+                self.note("active_dst_offset", there == 1 || (there, offset) == (0, 0));
+                Ok((there == 1).then_some(offset))
+            }
+        }
+    }
+    pub fn next_transition(&self, utc: u64) -> Answer<Option<u64>> {
+        let r = self.numbers("next_transition", |s, [a, b]| unsafe { ffi::timesync_next_transition(s, self.lent, utc, a, b) })?;
+        Ok(self.maybe("next_transition", r))
+    }
+    /// The moments walked, the start first
+    pub fn walk(&self, start: u64, room: usize) -> Answer<Vec<u64>> {
+        let mut out = Lent::new(room);
+        let r = self.numbers("walk", |s, [a]: &mut [u64; 1]| unsafe { ffi::timesync_walk(s, self.lent, start, out.ptr(), room, a) });
+        match r {
+            Err(e) => {
+                self.note("walk, refused", out.clean(0));
+                Err(e)
+            }
+            Ok([steps]) => {
+                self.note("walk", steps <= 40 && out.clean(8 * (steps as usize + 1)));
+                Ok(moments(&out.front(8 * (steps.min(40) as usize + 1))))
+            }
+        }
+    }
+    pub fn record(&self, room: usize) -> Answer<Vec<u8>> {
+        let mut out = Lent::new(room);
+        let r = self.numbers("record", |s, [a]: &mut [u64; 1]| unsafe { ffi::timesync_record(s, self.lent, out.ptr(), room, a) });
+        match r {
+            Err(e) => {
+                self.note("record, refused", out.clean(0));
+                Err(e)
+            }
+            Ok([used]) => {
+                self.note("record", used <= room as u64 && out.clean(used as usize));
+                Ok(out.front(used as usize))
+            }
+        }
+    }
+}
+
+/// A whole history on a new list store
+pub fn replay(limits: (usize, usize), history: &[u8], start: u64) -> Answer<Replayed> {
+    let (mut walked, mut out) = (Lent::new(MOMENTS_MAX), Lent::new(RECORD_MAX));
+    let (mut steps, mut used, mut generation) = (NUMBER, NUMBER, NUMBER);
+    let r = unsafe {
+        ffi::timesync_replay(
+            limits.0,
+            limits.1,
+            history.as_ptr(),
+            history.len(),
+            start,
+            walked.ptr(),
+            MOMENTS_MAX,
+            &mut steps,
+            out.ptr(),
+            RECORD_MAX,
+            &mut used,
+            &mut generation,
+        )
+    };
+    if r != 0 {
+        return Err(r);
+    }
+    Ok(Replayed { moments: moments(&walked.front(8 * (steps.min(40) as usize + 1))), record: out.front(used as usize), generation })
+}

@@ -1,0 +1,251 @@
+//! Where the port and the Rust are meant to part: the rows of docs/DIFFERENCES.md, each with its smallest
+//! input, both sides looked at. And the refusals that only the port has.
+use std::panic::{catch_unwind, AssertUnwindSafe};
+
+use oracle::driver::{self, Device, Outcome, WindowArg, ZoneArg};
+use oracle::trace::{self, Effect};
+
+use crate::bytes;
+use crate::ffi;
+use crate::input::HOUR;
+use crate::port::{self, Port, IMAGE, MOMENTS_MAX, RECORD_MAX};
+
+type Done = Result<(), String>;
+
+struct Rows {
+    answers: u64,
+}
+
+impl Rows {
+    fn is<T: PartialEq + std::fmt::Debug>(&mut self, what: &str, got: T, want: T) -> Done {
+        self.answers += 1;
+        if got == want {
+            Ok(())
+        } else {
+            Err(format!("{what}: {got:?}, and {want:?} is documented"))
+        }
+    }
+
+    /// A call that is refused, asks for nothing and leaves the image
+    fn left(&mut self, what: &str, port: &mut Port, answer: u64, call: impl FnOnce(&mut Port) -> port::Returned) -> Done {
+        let before = port.image().to_vec();
+        let r = call(port);
+        self.is(what, (r.answer, r.effects), (answer, Vec::new()))?;
+        self.is(what, port.image() == &before[..], true)?;
+        self.is(what, (port.spoiled.get(), port.guarded()), (None, true))
+    }
+}
+
+fn zone(offset: i32, valid_at: u64) -> ZoneArg {
+    ZoneArg { offset, valid_at, name: None }
+}
+
+fn window(start: u64, end: u64) -> WindowArg {
+    WindowArg { offset: 0, valid_starting: start, valid_until: Some(end) }
+}
+
+/// How many answers were compared
+pub fn check() -> Result<u64, String> {
+    let mut rows = Rows { answers: 0 };
+    rows.lists()?;
+    rows.clock()?;
+    rows.client()?;
+    rows.limits()?;
+    rows.images()?;
+    rows.histories()?;
+    trace::take();
+    Ok(rows.answers)
+}
+
+impl Rows {
+    /// Rows 1, 2 and 4
+    fn lists(&mut self) -> Done {
+        let store = driver::make_store(2, 2).unwrap();
+        let mut port = Port::new(Some((2, 2)), 0, 0);
+        let good = [window(1, 2)];
+        port.set_list(false, &bytes::windows(&good), RECORD_MAX);
+        store.set_dst_offset(&good).map_err(|_| "row 1: a good window is refused")?;
+        trace::take();
+        driver::set_unreadable(Some(0));
+        let r = store.set_dst_offset(&good).map_err(driver::number);
+        driver::set_unreadable(None);
+        self.is("row 1, the Rust", (r, store.windows().len(), store.generation()), (Err(1), 0, 2))?;
+        self.is("row 1, the Rust", trace::take(), vec![Effect::WakeTimer])?;
+        let mut unreadable = bytes::windows(&good);
+        unreadable[13] = 2;
+        self.left("row 1", &mut port, 1, |p| p.set_list(false, &unreadable, RECORD_MAX).0)?;
+
+        let two = [zone(0, 5), zone(0, 6)];
+        driver::set_unreadable(Some(1));
+        let r = store.set_time_zone(&two).map_err(driver::number);
+        driver::set_unreadable(None);
+        self.is("row 2, the Rust", r, Err(2))?;
+        let mut unreadable = bytes::zones(&two);
+        unreadable[26] = 2;
+        self.left("row 2", &mut port, 1, |p| p.set_list(true, &unreadable, RECORD_MAX).0)?;
+
+        let late = [zone(0, 5)];
+        let r = store.load(Some(driver::record(&late, &[]))).map_err(driver::number);
+        self.is("row 4, the Rust loads a zone that no command takes", (r, store.zones()), (Ok(()), late.to_vec()))?;
+        self.left("row 4", &mut port, 7, |p| p.load_lists(Some(&bytes::record(&late, &[]))))?;
+        let three = [zone(0, 0), zone(0, 1), zone(0, 2)];
+        self.left("row 4, three zones", &mut port, 7, |p| p.load_lists(Some(&bytes::record(&three, &[]))))?;
+        self.left("row 4, no bytes", &mut port, 7, |p| p.load_lists(Some(&[])))
+    }
+
+    /// Rows 3, 5 and 6
+    fn clock(&mut self) -> Done {
+        driver::set_build_moment(0);
+        driver::set_tick(0);
+        let device = Device::new(true);
+        let mut port = Port::new(Some((2, 2)), 0, 0);
+        device.cmd_set_utc_time(9, 2).map_err(|_| "row 3: the clock cannot be set")?;
+        port.set_utc_time(9, 2, None, 0);
+        device.put_utc(Some(4));
+        device.put_source(Some((0, 1, 1)));
+        let r = device.rtc_load().map_err(driver::number);
+        self.is("row 3, the Rust", (r, device.rtc_utc()), (Err(1), (4, false)))?;
+        self.left("row 3", &mut port, 7, |p| p.load_clock(0, Some(4), Some((0, 1, 1))))?;
+        self.is("row 3, the clock as it was", port.utc_time(0), Ok((9, true)))?;
+        self.left("row 5", &mut port, 1, |p| p.set_utc_time(10, 2, Some(17), 0))?;
+        self.is("row 6, the Rust", device.cmd_set_utc_time(10, 5).map_err(driver::number), Err(1))?;
+        self.left("row 6", &mut port, 1, |p| p.set_utc_time(10, 5, None, 0))?;
+        self.left("a granularity of the clock that is none", &mut port, 1, |p| p.rtc_set(false, 10, 5, 0, 0).0)?;
+        self.left("a source of the clock that is none", &mut port, 1, |p| p.rtc_set(true, 10, 4, 17, 0).0)
+    }
+
+    /// Row 7
+    fn client(&mut self) -> Done {
+        driver::set_tick(HOUR);
+        let mut device = Device::new(false);
+        let mut port = Port::new(None, 0, 0);
+        device.client_start(0);
+        port.attempt(false, None, None, HOUR);
+        device.cmd_set_source(1, Some((1, 1))).map_err(|_| "row 7: no source")?;
+        port.set_source(1, Some((1, 1)));
+        port.source_changed();
+        driver::set_tick(10);
+        driver::script(Outcome::NoSession);
+        let r = catch_unwind(AssertUnwindSafe(|| device.client_step()));
+        driver::clear_script();
+        self.is("row 7, the Rust panics", r.is_err(), true)?;
+        let (r, _) = port.attempt(false, None, None, 10);
+        self.is("row 7, not due", (r.answer, r.effects), (0, Vec::new()))?;
+        self.is("row 7, the marks are kept", (port.word(72, 8), port.word(80, 8), port.word(88, 2)), (HOUR, HOUR, 0x101))
+    }
+
+    /// Row 8: limits that make no store
+    fn limits(&mut self) -> Done {
+        for z in 0..=9 {
+            for w in 0..=17 {
+                let good = (1..=8).contains(&z) && (1..=16).contains(&w);
+                let mut bytes = [0x77; IMAGE];
+                let r = unsafe { ffi::timesync_new(bytes.as_mut_ptr(), IMAGE, 1, z, w, 1, 2) };
+                self.is("limits", (r, bytes != [0x77; IMAGE]), if good { (0, true) } else { (8, false) })?;
+                self.is("limits, replayed", port::replay((z, w), &[], 0).is_ok(), good)?;
+                self.is("limits, made by the oracle", driver::make_store(z, w).is_some(), good)?;
+            }
+        }
+        let mut bytes = [0x77; IMAGE];
+        let r = unsafe { ffi::timesync_new(bytes.as_mut_ptr(), IMAGE - 1, 0, 0, 0, 1, 2) };
+        self.is("a slice that is too short", (r, bytes == [0x77; IMAGE]), (8, true))?;
+        let far = usize::MAX;
+        let r = unsafe { ffi::timesync_new(bytes.as_mut_ptr(), IMAGE, 1, far, far, 1, 2) };
+        self.is("limits far too large", (r, bytes == [0x77; IMAGE]), (8, true))
+    }
+
+    /// Row 8: bytes that are no image are refused by every call
+    fn images(&mut self) -> Done {
+        let good = Port::new(Some((2, 2)), 0, 0);
+        for index in [1 << 8, 1 << 16, 1 << 32, usize::MAX] {
+            self.is("an index far past the end", good.zone(index, 64), Err(2))?;
+            self.is("an index far past the end", good.window(index), Err(2))?;
+        }
+        let bad = [
+            (0, 2),
+            (1, 0),
+            (1, 9),
+            (2, 0),
+            (2, 17),
+            (3, 3),
+            (4, 3),
+            (5, 2),
+            (6, 2),
+            (7, 2),
+            (16, 5),
+            (17, 17),
+            (18, 2),
+            (19, 2),
+            (88, 2),
+            (89, 2),
+            (0, 255),
+            (89, 255),
+        ];
+        for (at, byte) in bad {
+            let mut p = good.clone();
+            p.poke(at, &[byte]);
+            let what = format!("byte {at} is {byte}");
+            self.left(&what, &mut p, 8, |p| p.set_utc_time(1, 2, None, 0))?;
+            self.left(&what, &mut p, 8, |p| p.set_source(1, None))?;
+            self.left(&what, &mut p, 4, |p| p.set_source(0, None))?;
+            self.left(&what, &mut p, 8, |p| p.set_list(true, &[0], RECORD_MAX).0)?;
+            self.left(&what, &mut p, 8, |p| p.set_list(false, &[0], RECORD_MAX).0)?;
+            self.left(&what, &mut p, 8, |p| p.load_lists(Some(&[0, 0])))?;
+            self.left(&what, &mut p, 8, |p| p.load_lists(None))?;
+            self.left(&what, &mut p, 8, |p| p.reset_lists())?;
+            self.left(&what, &mut p, 8, |p| p.load_clock(0, None, None))?;
+            self.left(&what, &mut p, 8, |p| p.reset_clock(0))?;
+            self.left(&what, &mut p, 8, |p| p.rtc_set(false, 1, 2, 2, 0).0)?;
+            self.left(&what, &mut p, 8, |p| p.rtc_set(true, 1, 2, 2, 0).0)?;
+            self.left(&what, &mut p, 8, |p| p.look(0, 64).0)?;
+            self.left(&what, &mut p, 8, |p| p.attempt(false, None, None, 0).0)?;
+            self.left(&what, &mut p, 8, |p| p.source_changed().0)?;
+            let refusals = [
+                p.utc_time(0).err(),
+                p.granularity().err(),
+                p.source().err(),
+                p.trusted().err(),
+                p.local_time(0).err(),
+                p.zone_count().err(),
+                p.window_count().err(),
+                p.zone_limit().err(),
+                p.window_limit().err(),
+                p.database().err(),
+                p.generation().err(),
+                p.table_empty().err(),
+                p.usable(0).err(),
+                p.zone(0, 64).err(),
+                p.window(0).err(),
+                p.active_zone(0, 64).err(),
+                p.active_window(0).err(),
+                p.next_transition(0).err(),
+                p.walk(0, MOMENTS_MAX).err(),
+                p.record(RECORD_MAX).err(),
+            ];
+            self.is(&what, refusals, [Some(8); 20])?;
+            self.answers += 19;
+            self.is(&what, p.spoiled.get(), None)?;
+        }
+        Ok(())
+    }
+
+    /// Row 8: bytes that are no history
+    fn histories(&mut self) -> Done {
+        for (history, refusal) in [
+            (&[][..], None),
+            (&[3], None),
+            (&[4, 4], None),
+            (&[5], Some(1)),
+            (&[4, 5], Some(1)),
+            (&[0], Some(1)),
+            (&[0, 0, 0, 0, 0], None),
+            (&[0, 0, 0, 0], Some(1)),
+            (&[2, 1, 0, 0, 0], Some(1)),
+            (&[1, 1, 0, 0, 0, 0], None),
+            (&[1, 255, 255, 255, 255, 0], Some(1)),
+        ] {
+            self.is(&format!("history {history:?}"), port::replay((1, 1), history, 0).err(), refusal)?;
+        }
+        Ok(())
+    }
+}

@@ -1,0 +1,74 @@
+//! The client that asks another node for the time.
+
+use crate::entry;
+use crate::outcome::Outcome;
+
+/// What the source told: a moment, and the number of a granularity. A missing granularity and a number above 4 count as Seconds.
+#[derive(Debug, Clone, Copy, PartialEq, Eq, Hash)]
+pub struct Told {
+    /// UTCTime, or null.
+    pub utc_us: Option<u64>,
+    /// Granularity, if it was told.
+    pub granularity: Option<u8>,
+}
+
+/// What comes next for the client.
+#[derive(Debug, Clone, Copy, PartialEq, Eq, Hash)]
+pub enum Wait {
+    /// An attempt at once.
+    AttemptNow,
+    /// A wait of so many microseconds or until the source changes, then an attempt.
+    For(u64),
+    /// A wait until the source changes.
+    ForSource,
+}
+
+fn wait_of(kind: u64, us: u64) -> Wait {
+    match kind {
+        0 => Wait::AttemptNow,
+        1 => Wait::For(us),
+        _ => Wait::ForSource,
+    }
+}
+
+/// The client of an image. What comes first is an attempt at once.
+#[derive(Debug)]
+pub struct TimeSyncClient<I> {
+    image: I,
+}
+
+impl<I: AsRef<[u8]> + AsMut<[u8]>> TimeSyncClient<I> {
+    /// Over the bytes of an image. Each call is refused with BadLimits where they are none.
+    pub fn over(image: I) -> Self {
+        TimeSyncClient { image }
+    }
+
+    /// An attempt at a tick, with what the exchange with the trusted time source brought; `None` where it failed. The timer is not woken
+    /// by a time that was applied.
+    pub fn attempt(&mut self, told: Option<Told>, tick: u64) -> Outcome<Wait> {
+        let (mut wait, mut wait_us) = (0, 0);
+        let reading = told.unwrap_or(Told {
+            utc_us: None,
+            granularity: None,
+        });
+        let returned = entry::attempt(
+            self.image.as_mut(),
+            u8::from(told.is_some()),
+            u8::from(reading.utc_us.is_some()),
+            reading.utc_us.unwrap_or(0),
+            u8::from(reading.granularity.is_some()),
+            reading.granularity.unwrap_or(0),
+            tick,
+            &mut wait,
+            &mut wait_us,
+        );
+        Outcome::with(returned, || wait_of(wait, wait_us))
+    }
+
+    /// The trusted time source has changed: the retries start over.
+    pub fn source_changed(&mut self) -> Outcome<Wait> {
+        let (mut wait, mut wait_us) = (0, 0);
+        let returned = entry::source_changed(self.image.as_mut(), &mut wait, &mut wait_us);
+        Outcome::with(returned, || wait_of(wait, wait_us))
+    }
+}
