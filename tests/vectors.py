@@ -370,7 +370,7 @@ def history_rows():
     history((2, 2), 0, [(SET_DST_OFFSET, section([window(0, 1, 2)])), (SET_DST_OFFSET, section([window(0, 2, 2)]))])
     history((2, 2), 0, [(SET_DST_OFFSET, section([window(0, 1, 2)])), (SET_DST_OFFSET, b"")])
     source = random.Random(1)
-    for _ in range(120):
+    for _ in range(30):
         limits = (source.choice([1, 2, 3]), source.choice([1, 2, 3]))
         history(limits, source.choice([0, 1, 3, 9]), [some_call(source, limits) for _ in range(source.randrange(6))])
 
@@ -451,6 +451,14 @@ def script_rows():
     Device().utc(TOP - 1, 3, 0).windows((-2**31, 0)).local(0).local(9).row()
 
 
+def oracle_rows():
+    """Histories with the answers of the unchanged Rust: `differ --list tests/oracle_rows.txt --rows 200 --most 60` of oracle/ wrote them."""
+    for line in pathlib.Path("tests/oracle_rows.txt").read_text().splitlines():
+        row, answer = line.split(": ", 1)
+        letter, given = row.split(" ", 1)
+        rows.append((letter, given, answer))
+
+
 utf8_rows()
 zone_rows()
 window_rows()
@@ -458,6 +466,7 @@ record_rows()
 clock_rows()
 history_rows()
 script_rows()
+oracle_rows()
 where = pathlib.Path("crates/vectors")
 where.joinpath("stdin").write_text("".join(f"{letter} {given}\n" for letter, given, _ in rows))
 where.joinpath("stdout").write_text("".join(f"{letter} {given}: {answer}\n" for letter, given, answer in rows))
