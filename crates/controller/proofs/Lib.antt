@@ -2,3 +2,4 @@
 pub mod Left
 pub mod Next
 pub mod Claim
+pub mod Kept

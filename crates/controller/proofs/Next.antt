@@ -33,7 +33,7 @@ use Rattle.controller.specs.Histories.{Entry, setTimeZone, setDSTOffset,
 use Rattle.controller.proofs.Left.{Left, Leaves, stays, left-then, left-as, windows-left, lists-left, generation-left, clock-left, timer-left, client-left}
 
 -- nothing to copy always has room
-no-bytes : (room : ℕ) → tooShort room [] ≡ false
+pub no-bytes : (room : ℕ) → tooShort room [] ≡ false
 no-bytes room = le-ltb room 0 (omega arith)
 
 -- ## A refusal of SetTimeZone or of a record changes nothing
@@ -137,20 +137,20 @@ module _ (s : List ℕ) (i : isImage s ≡ true) where
   clock-kept (refused cause) c = stays s i
   clock-kept (answers x) c = clock-left s c i
 
-  call-kept : {A : Type 0} (p : Result Device A) → Left s (listsIn s) (C.clockLeft s p)
+  pub call-kept : {A : Type 0} (p : Result Device A) → Left s (listsIn s) (C.clockLeft s p)
   call-kept p = clock-kept (p .answer) (p .state .clock)
 
-  look-kept : (a : Answer Look) → Left s (listsIn s) (S.lookLeft s a)
+  pub look-kept : (a : Answer Look) → Left s (listsIn s) (S.lookLeft s a)
   look-kept (refused cause) = stays s i
   look-kept (answers p) = timer-left s (p .timer) i
 
-  attempt-kept : (a : Answer Step) → Left s (listsIn s) (S.attemptLeft s a)
+  pub attempt-kept : (a : Answer Step) → Left s (listsIn s) (S.attemptLeft s a)
   attempt-kept (refused cause) = stays s i
   attempt-kept (answers p) =
       let a = clock-left s (p .clock) i in
       left-then a (left-as (a .lists) (client-left (withClock s (p .clock)) (p .client) (a .image)))
 
-  change-kept : (a : Answer Step) → Left s (listsIn s) (S.changeLeft s a)
+  pub change-kept : (a : Answer Step) → Left s (listsIn s) (S.changeLeft s a)
   change-kept (refused cause) = stays s i
   change-kept (answers p) = client-left s (p .client) i
 

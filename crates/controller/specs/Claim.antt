@@ -19,7 +19,7 @@ use Rattle.image.specs.Layout.{imageSize, isImage, listsIn}
 use Rattle.image.specs.Asked.{roomy}
 use Rattle.image_readings.specs.Readings as R
 use Rattle.image_commands.specs.Calls.{newLeft}
-use Rattle.controller.specs.Histories.{Entry, imageThrough, listCalls, EntryBytes}
+use Rattle.controller.specs.Histories.{Entry, imageNext, imageThrough, listCalls, EntryBytes}
 
 -- of the image `t`, the limits `r`, the lists `l` that the rules make of the calls' arguments, and a starting moment
 pub record Demand3AtEntry (r : Rules) (t : List ℕ) (l : Lists) (start : ℕ) : Type 0 where
@@ -57,3 +57,7 @@ Demand3AtEntryStands =
     (s : List ℕ) (r : Rules) (build period : ℕ) → imageSize ≤ length s → allowed r ≡ true → IsMoment build → IsMoment period
     → (calls : List Entry) → All EntryBytes calls → (start : ℕ)
     → Demand3AtEntry r (imageThrough (newOf s r build period) calls) (listsAfterSized r (listCalls calls)) start
+
+-- every call on an image leaves one, with a list store or without, whatever its lists: `call-leaves-image` in proofs/Kept.antt
+abbrev pub CallLeavesImage : Type 0
+CallLeavesImage = (s : List ℕ) (e : Entry) → isImage s ≡ true → EntryBytes e → isImage (imageNext s e) ≡ true
