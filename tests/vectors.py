@@ -459,15 +459,14 @@ def oracle_rows():
         rows.append((letter, given, answer))
 
 
-utf8_rows()
-zone_rows()
-window_rows()
-record_rows()
-clock_rows()
-history_rows()
-script_rows()
-oracle_rows()
-where = pathlib.Path("crates/vectors")
-where.joinpath("stdin").write_text("".join(f"{letter} {given}\n" for letter, given, _ in rows))
-where.joinpath("stdout").write_text("".join(f"{letter} {given}: {answer}\n" for letter, given, answer in rows))
-print(f"{len(rows)} rows")
+def main():
+    for ask in (utf8_rows, zone_rows, window_rows, record_rows, clock_rows, history_rows, script_rows, oracle_rows):
+        ask()
+    where = pathlib.Path("crates/vectors")
+    where.joinpath("stdin").write_text("".join(f"{letter} {given}\n" for letter, given, _ in rows))
+    where.joinpath("stdout").write_text("".join(f"{letter} {given}: {answer}\n" for letter, given, answer in rows))
+    print(f"{len(rows)} rows")
+
+
+if __name__ == "__main__":
+    main()

@@ -1,38 +1,18 @@
--- What an accepted request or record is copied as, and what a verdict by value says.
+-- What an accepted request or record is copied as.
 use mathlib.Core.List.{List, []}
 use mathlib.Core.Option.{Option, none, some}
 use mathlib.Core.Path.{_≡_, refl, sym, ap, _∙_}
 use Prim.Native.Nat.{ℕ, _≤_}
 use native.Mathlib.Omega.{arith}
-use Rattle.model.specs.declared.Refusal.{Refusal}
 use Rattle.model.specs.Lists.{Zone, Window, Lists}
 use Rattle.model.specs.Rules as M
 use Rattle.model.specs.Rules.{Rules, testZones, testWindows}
 use Rattle.model.specs.History.{zonesVerdict, windowsVerdict, recordVerdict, zonesSet, windowsSet, recordLoaded, ifAccepted}
 use Rattle.model.proofs.Accepted.{zones-fit, windows-fit, record-accepted}
 use Rattle.record.specs.Data.{dataOf}
-use Rattle.rules.specs.declared.Verdict.{Verdict}
-use Rattle.rules.specs.declared.Verdict.the-variants.{Accepted, TurnedDown}
-use Rattle.rules.specs.Verdicts.{verdictOf}
 use Rattle.taken.specs.declared.TimeZones.{TimeZones}
 use Rattle.taken.specs.ByValue.{firstWindows, bothOf, zonesTaken, windowsTaken, listsTaken}
 use Rattle.taken.proofs.Whole.{zones-whole, lists-whole}
-
--- ## Verdicts
-
-abbrev verdictBack : Verdict → M.Verdict
-verdictBack Accepted = M.accepted
-verdictBack (TurnedDown cause) = M.turnedDown cause
-
-back-of : (v : M.Verdict) → verdictBack (verdictOf v) ≡ v
-back-of M.accepted = refl
-back-of (M.turnedDown cause) = refl
-
-pub is-accepted : (v : M.Verdict) → verdictOf v ≡ Accepted → v ≡ M.accepted
-is-accepted v h = sym (back-of v) ∙ ap verdictBack h
-
-pub is-turned-down : (v : M.Verdict) (cause : Refusal) → verdictOf v ≡ TurnedDown cause → v ≡ M.turnedDown cause
-is-turned-down v cause h = sym (back-of v) ∙ ap verdictBack h
 
 -- what is taken where a verdict accepts
 taken-where : {A : Type 0} (v : M.Verdict) (new old : A) → v ≡ M.accepted → ifAccepted v new old ≡ new

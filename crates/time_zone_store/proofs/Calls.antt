@@ -12,12 +12,12 @@ use Rattle.record.specs.declared.TimeZoneStoreData.{TimeZoneStoreData}
 use Rattle.record.specs.Data.{listsOf}
 use Rattle.rules.specs.declared.Verdict.the-variants.{Accepted, TurnedDown}
 use Rattle.rules.specs.Verdicts.{verdictOf, zonesTested, windowsTested, recordTested}
-use Rattle.rules.proofs.Agree.{zones-are, windows-are, records-are}
+use Rattle.rules.proofs.Agree.{zones-are, windows-are, records-are, is-accepted, is-turned-down}
 use Rattle.taken.specs.declared.DSTOffsets.{DSTOffsets}
 use Rattle.taken.specs.ByValue.{firstWindows, bothOf, zonesTaken, windowsTaken, listsTaken}
 use Rattle.time_zone_store.specs.declared.TimeZoneStore.{TimeZoneStore}
 use Rattle.time_zone_store.specs.Stores.{rulesOf, withTable, changed, refusedWith, windowsRefused, kept, timeZoneSet, setTimeZone, dstOffsetSet, setDSTOffset, storeLoaded, load}
-use Rattle.time_zone_store.proofs.Accepted.{is-accepted, is-turned-down, zones-taken, windows-taken, record-taken}
+use Rattle.time_zone_store.proofs.Accepted.{zones-taken, windows-taken, record-taken}
 
 module _ (s : TimeZoneStore) (bytes : List ℕ) where
   -- ## SetTimeZone

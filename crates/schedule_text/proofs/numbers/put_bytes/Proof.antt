@@ -1,0 +1,45 @@
+-- `schedule_text::numbers::put_bytes` meets its contract: the first `i` bytes are written.
+use mathlib.Core.List.{List, [], _∷_, _++_}
+use mathlib.Core.Path.{_≡_, refl, sym, ap, _∙_}
+use Prim.Native.Nat.{ℕ, _+_, _-_, _≤_, _<_}
+use native.Mathlib.Numerals.{add-one}
+use native.Mathlib.Omega.{arith}
+use lib.ListN.{length, take, getD}
+use lib.Seq.{take-suc, take-all, length-take-le}
+use Rattle.record.proofs.Writes.{Wrote, wrote-none, wrote-byte, wrote-as, same-length}
+use Rattle.schedule_text.proofs.numbers.put_bytes.Statement.{statement}
+use Rattle.schedule_text.proofs.numbers.put_bytes.Tie as tie
+
+abbrev Inv-loop : tie.InvT-loop
+Inv-loop out₀ at bytes i₀ out i = (i ≤ length bytes) × Wrote out₀ at (take i bytes) out
+
+abbrev μ-loop : tie.MeasureT-loop
+μ-loop out₀ at bytes i₀ out i = length bytes - i
+
+loop-holds : tie.Need-loop-holds Inv-loop μ-loop
+loop-holds c = (omega arith, wrote-none (omega arith))
+
+kept : (c : tie.At-loop Inv-loop μ-loop) → length (c .loop .out) ≡ length (c .before .args .out .now)
+kept c = same-length (c .loop .inv .1)
+
+loop-again : tie.Need-loop-again Inv-loop μ-loop
+loop-again c =
+    let l = c .before .before in
+    let a = l .before .args in
+    let i = l .loop .i in
+    let w = l .loop .inv .1 in
+    let t = length-take-le i (a .bytes .now) (omega arith) in
+    let m : take i (a .bytes .now) ++ (getD (a .bytes .now) i 0 ∷ []) ≡ take (i + 1) (a .bytes .now)
+    = sym (ap (λ (k : ℕ). take k (a .bytes .now)) (add-one i) ∙ take-suc (a .bytes .now) i 0 (omega arith)) in
+    (omega arith, wrote-as (wrote-byte w (getD (a .bytes .now) i 0) (a .at + i) _ (omega arith) (omega arith) refl) (take (i + 1) (a .bytes .now)) m)
+
+returns : tie.Need-returns Inv-loop μ-loop
+returns c =
+    let l = c .before in
+    let b = l .before .args .bytes .now in
+    (wrote-as (l .loop .inv .1) b (take-all (l .loop .i) b (omega arith)) .is, refl)
+
+pub put-bytes-spec : {M : Type 1} → statement M
+put-bytes-spec =
+    tie.close
+    (tie.spec Inv-loop μ-loop loop-holds (λ c. omega arith) (λ c. omega arith) (λ c. omega (arith, kept (c .before .before))) (λ c. omega arith) (λ c. omega arith) loop-again (λ c. omega arith) (λ c. kept (c .before)) returns)

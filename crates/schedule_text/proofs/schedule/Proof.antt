@@ -1,0 +1,56 @@
+-- `schedule_text::schedule` meets its contract.
+use mathlib.Core.List.{List}
+use mathlib.Core.Path.{_≡_, refl, sym, ap, _∙_}
+use Prim.Native.Nat.{ℕ, _-_, _≤_}
+use native.Mathlib.Omega.{arith}
+use borrow.Author.Needs.{needs}
+use lib.ListN.{length, take, drop, length-drop, length-append, replicate}
+use lib.Seq.{take-all}
+use Rattle.model.specs.Schedule.{refused7}
+use Rattle.schedule_text.specs.declared.Text.{Text}
+use Rattle.schedule_text.specs.Texts.{textOf}
+use Rattle.schedule_text.proofs.Texts.{too-short, too-long, bad-record, good-record}
+use Rattle.schedule_text.proofs.schedule.Statement.{statement}
+use Rattle.schedule_text.proofs.schedule.Tie as tie
+
+-- the bytes after the moment
+rest : (s : List ℕ) → take (length s - 8) (drop 8 s) ≡ drop 8 s
+rest s = take-all (length s - 8) (drop 8 s) (omega (arith, length-drop 8 s))
+
+-- a text lies in its bytes
+text-fits : (t : Text) (l : List ℕ) → t ≡ textOf l → t .length ≤ length (t .bytes)
+unfolding textOf
+text-fits t l e = omega (arith, ap (λ (x : Text). x .length) e, ap (λ (x : Text). length (x .bytes)) e, length-append l (replicate (2879 - length l) 0))
+
+returns : tie.Need-returns
+returns c =
+    let s = c .before .before .before .args .input .now in
+    (c .refused .ensures ∙ ap textOf (too-short s (c .before .if1 .taken)), text-fits _ refused7 (c .refused .ensures))
+
+returns-2 : tie.Need-returns-2
+returns-2 c =
+    let s = c .before .before .before .before .args .input .now in
+    (c .refused2 .ensures ∙ ap textOf (too-long s (c .before .if2 .taken)), text-fits _ refused7 (c .refused2 .ensures))
+
+returns-3 : tie.Need-returns-3
+returns-3 c =
+    let v = c .before .before .before in
+    let e = v .before .before in
+    let s = e .before .before .before .args .input .now in
+    let said = bad-record s (take (length s - 8) (drop 8 s)) (rest s) (omega (arith, e .before .if1 .left)) (omega (arith, e .if2 .left)) (v .stored .result) (v .stored .ensures) (c .before .enum-told .given .0 .0) (c .before .enum-told .given .1) in
+    (c .refused3 .ensures ∙ ap textOf said, text-fits _ refused7 (c .refused3 .ensures))
+
+returns-4 : tie.Need-returns-4
+returns-4 c =
+    let l = c .before .before in
+    let v = l .before .before .before in
+    let e = v .before .before in
+    let s = e .before .before .before .args .input .now in
+    let said = good-record s (take (length s - 8) (drop 8 s)) (rest s) (omega (arith, e .before .if1 .left)) (omega (arith, e .if2 .left)) (v .stored .result) (v .stored .ensures)
+    (l .lists .result) (c .before .u64-at .result) (l .before .enum-told2 .given .1) (l .lists .ensures) (c .before .u64-at .ensures) in
+    (c .walked .ensures ∙ ap textOf said, text-fits _ _ (c .walked .ensures))
+
+pub schedule-spec : {M : Type 1} → statement M
+schedule-spec =
+    tie.close
+    (tie.spec (λ c κs. search needs) returns (λ c κs. search needs) returns-2 (λ c. search needs) (λ c. search needs) (λ c. search needs) (λ c κs. search needs) (λ c. search needs) (λ c κs. search needs) (λ c. search needs) (λ c κs. search needs) (λ c κs. search needs) (λ c κs. search needs) returns-3 returns-4)

@@ -1,0 +1,2 @@
+-- What the contracts of `schedule_text` cite.
+pub mod Texts
