@@ -16,7 +16,7 @@ use Rattle.model.specs.History as M
 use Rattle.model.specs.History.{verdict, after, zonesVerdict, recordVerdict, zonesSet, recordLoaded}
 use Rattle.model.specs.Store as T
 use Rattle.model.specs.Store.{timeZoneSet, windowsRead, windowsTested, storeLoaded, recordOf}
-use Rattle.model.specs.Output.{tooShort, SizedCall, storedBy, noSpace, afterSized}
+use Rattle.model.specs.Output.{tooShort, storedBy, noSpace, afterSized}
 use Rattle.model.specs.Clock.{Clock}
 use Rattle.model.specs.Timer.{Look}
 use Rattle.model.specs.Retries.{Step}

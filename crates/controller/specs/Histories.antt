@@ -1,7 +1,6 @@
 -- Histories of calls at the entry points: what each leaves of the image, as its contract says.
-use mathlib.Core.Bool.{true}
 use mathlib.Core.List.{List, [], _∷_, _++_}
-use mathlib.Core.Option.{Option, none, some}
+use mathlib.Core.Option.{Option}
 use Prim.Native.Nat.{ℕ}
 use Rattle.model.specs.Basics.{run, All}
 use Rattle.model.specs.Answers.{TrustedSource}

@@ -5,7 +5,6 @@ use mathlib.Core.Option.{Option, none, some}
 use Prim.Native.Nat.{ℕ}
 use lib.Dec.{eqb}
 use lib.IntN.{ℤ, pos}
-use lib.ListN.{length}
 use Rattle.model.specs.declared.Refusal.the-variants.{BadLimits, NoSpace}
 use Rattle.model.specs.Lists.{Name}
 use Rattle.model.specs.Answers.{Answer, refused, answers, Effect, storeRecord, report, emit, wakeTimer, wakeClient, removeRecord, storeMoment, removeMoment, storeSource, removeSource, Result, unchanged}

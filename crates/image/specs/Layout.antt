@@ -31,12 +31,11 @@
 --   90     6    not used
 --   96   640    8 zones, 80 bytes each, written as in a record; what is left of the 80 is not used
 --  736   384    16 windows, 24 bytes each, written as in a record; what is left of the 24 is not used
-use mathlib.Core.Bool.{Bool, true, false, not, _&&_, cond}
-use mathlib.Core.List.{List, [], _∷_, _++_}
+use mathlib.Core.Bool.{Bool, not, _&&_, cond}
+use mathlib.Core.List.{List, [], _∷_}
 use mathlib.Core.Option.{Option, none, some}
 use Prim.Native.Nat.{ℕ, zero, suc, _+_, _*_, min}
 use lib.Dec.{leb, eqb}
-use lib.IntN.{ℤ}
 use lib.ListN.{length, take, drop}
 use Rattle.model.specs.Lists.{Name, Zone, Window, Lists}
 use Rattle.model.specs.Bytes.{bytes, signed, zoneBytes, windowBytes}

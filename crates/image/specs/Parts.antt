@@ -3,7 +3,6 @@ use mathlib.Core.Bool.{Bool, true, false, cond}
 use mathlib.Core.List.{List, [], _∷_, _++_}
 use mathlib.Core.Option.{Option, none, some}
 use Prim.Native.Nat.{ℕ}
-use lib.IntN.{ℤ}
 use lib.ListN.{replicate}
 use Rattle.model.specs.declared.TimeGranularity.{TimeGranularity}
 use Rattle.model.specs.declared.TimeGranularity.the-variants.{NoTime}
@@ -17,7 +16,7 @@ use Rattle.model.specs.Rules.{Rules}
 use Rattle.model.specs.Store.{Store}
 use Rattle.model.specs.Clock.{Clock, fresh}
 use Rattle.model.specs.Handler.{Device}
-use Rattle.model.specs.Timer.{Seen, Timer}
+use Rattle.model.specs.Timer.{Timer}
 use Rattle.model.specs.Retries.{Client, newClient}
 use Rattle.word.specs.Place.{byteAt, wordAt, placed}
 use Rattle.image.specs.Layout.{markAt, maybeAt, listsIn}

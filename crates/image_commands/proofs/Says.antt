@@ -1,8 +1,8 @@
 -- What a call on the clock returns and leaves.
 use mathlib.Core.Bool.{Bool, true, false, not, _&&_, cond}
-use mathlib.Core.List.{List, [], _∷_, _++_}
+use mathlib.Core.List.{List, [], _++_}
 use mathlib.Core.Option.{Option, none, some}
-use mathlib.Core.Path.{_≡_, refl, sym, ap, subst, _∙_}
+use mathlib.Core.Path.{_≡_, refl, sym, subst}
 use Prim.Native.Nat.{ℕ, zero, suc}
 use native.Mathlib.Omega.{arith}
 use lib.Dec.{eqb, leb}
@@ -11,22 +11,19 @@ use Rattle.model.specs.declared.Refusal.{Refusal}
 use Rattle.model.specs.declared.Refusal.the-variants.{Unreadable, BadLimits}
 use Rattle.model.specs.declared.TimeGranularity.{TimeGranularity}
 use Rattle.model.specs.declared.TimeSource.{TimeSource}
-use Rattle.model.specs.Numbers.{refusalNumber, granularityOf, sourceOf}
-use Rattle.model.specs.Basics.{isSome, when}
+use Rattle.model.specs.Numbers.{refusalNumber, granularityOf}
+use Rattle.model.specs.Basics.{isSome}
 use Rattle.model.specs.Bytes.{number}
-use Rattle.model.specs.Rules.{allowed}
-use Rattle.model.specs.Answers.{Answer, refused, answers, done, TrustedSource, wakeTimer, wakeClient, Result, unchanged}
+use Rattle.model.specs.Answers.{Result, unchanged, refused}
 use Rattle.model.specs.Codes.{returned}
 use Rattle.model.specs.Clock.{Clock, Persisted}
 use Rattle.model.specs.Handler as H
 use Rattle.model.specs.Handler.{Device, Named, ofClock, sourceReadable, sourceOfFabric, utcTimeAsked}
-use Rattle.rtc.specs.declared.Rtc.{Rtc}
 use Rattle.rtc.specs.declared.UtcTimeSet.{UtcTimeSet}
 use Rattle.rtc.specs.declared.UtcTimePersisted.{UtcTimePersisted}
 use Rattle.rtc.specs.declared.Loaded.{Loaded}
-use Rattle.rtc.specs.declared.LoadAnswer.{LoadAnswer}
 use Rattle.rtc.specs.declared.LoadAnswer.the-variants as L
-use Rattle.rtc.specs.Meaning.{clockOf, keptReports, momentStored, utcTimeSetOf, utcTimePersistedOf, loadedOf}
+use Rattle.rtc.specs.Meaning.{clockOf, keptReports, utcTimeSetOf, utcTimePersistedOf, loadedOf}
 use Rattle.image.specs.Layout.{isImage}
 use Rattle.image.specs.Parts.{deviceIn, withClock, newBytes, newImage}
 use Rattle.image.specs.Asked.{askedOf, leaves, truth}

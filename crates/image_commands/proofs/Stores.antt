@@ -1,7 +1,7 @@
 -- The list store of an image by value stands for the list store of the image.
 use mathlib.Core.Bool.{Bool, true, false, cond}
 use mathlib.Core.List.{List, [], _∷_, _++_, map}
-use mathlib.Core.Option.{Option, none, some}
+use mathlib.Core.Option.{none, some}
 use mathlib.Core.Path.{_≡_, refl, sym, ap, _∙_}
 use Prim.Native.Nat.{ℕ, zero, suc, _+_, _≤_, _<_, min}
 use native.Mathlib.Omega.{arith}
@@ -11,9 +11,8 @@ use lib.ListN.{length, take, drop, getD, set, length-map, length-take}
 use lib.Seq.{paste, paste-suc, length-paste, length-take-le}
 use Rattle.model.specs.Output.{copiedOver}
 use Rattle.model.specs.Basics.{All}
-use Rattle.model.specs.Lists.{Name, Zone, Window, Lists}
-use Rattle.model.specs.Rules.{Rules, nameFits}
-use Rattle.model.specs.Store.{Store}
+use Rattle.model.specs.Lists.{Name, Zone, Window}
+use Rattle.model.specs.Rules.{nameFits}
 use Rattle.word.specs.Place.{byteAt, wordAt}
 use Rattle.record.specs.Data.{zoneOf, windowOf, listsOf, dataOf, padded, zoneOwned, windowEntry, blankZone, blankWindow, zoneArray, windowArray}
 use Rattle.record.proofs.Again.{padded-front, zones-same, windows-same}

@@ -1,5 +1,5 @@
 -- What the calls that change an image answer, ask for and leave.
-use mathlib.Core.Bool.{Bool, true, false, not, _||_, _&&_, cond}
+use mathlib.Core.Bool.{Bool, not, _||_, _&&_, cond}
 use mathlib.Core.List.{List, [], _∷_}
 use mathlib.Core.Option.{Option, none, some}
 use Prim.Native.Nat.{ℕ}
@@ -7,9 +7,9 @@ use lib.Dec.{leb, eqb}
 use lib.ListN.{length}
 use Rattle.model.specs.declared.TimeGranularity.{TimeGranularity}
 use Rattle.model.specs.declared.TimeSource.{TimeSource}
-use Rattle.model.specs.declared.Refusal.the-variants.{Unreadable, InvalidCommand, BadLimits}
+use Rattle.model.specs.declared.Refusal.the-variants.{Unreadable, InvalidCommand}
 use Rattle.model.specs.Numbers.{granularityOf, sourceOf}
-use Rattle.model.specs.Answers.{Answer, refused, answers, numberOf, TrustedSource, Effect, Result, unchanged}
+use Rattle.model.specs.Answers.{numberOf, TrustedSource, Effect, Result, unchanged}
 use Rattle.model.specs.Codes.{returned}
 use Rattle.model.specs.Rules.{allowed}
 use Rattle.model.specs.Store.{Store}
@@ -18,7 +18,7 @@ use Rattle.model.specs.Handler as H
 use Rattle.model.specs.Handler.{Device, Named, ofClock}
 use Rattle.image.specs.Layout.{imageSize, withLists, withWindows, withGeneration}
 use Rattle.image.specs.Parts.{deviceIn, withClock, newImage}
-use Rattle.image.specs.Asked.{given, askedOf, leaves, recordStored, recordRoomy}
+use Rattle.image.specs.Asked.{given, askedOf, leaves, recordRoomy}
 
 module _ {A : Type 0} where
   -- what a call returns: its number and the codes of its effects

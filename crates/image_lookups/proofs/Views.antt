@@ -13,9 +13,9 @@ use Rattle.model.specs.Basics.{keep, last}
 use Rattle.model.specs.Lists.{Name, Zone, Window}
 use Rattle.model.specs.Lookups as L
 use Rattle.model.proofs.Facts.{by-test}
+use Rattle.model.proofs.Maybe.{moment-back}
 use Rattle.word.specs.Place.{byteAt, wordAt}
 use Rattle.record.specs.Data.{windowEntry}
-use Rattle.record.proofs.AtIndex.{back}
 use Rattle.lookups.specs.Laws.{windowListedOf}
 use Rattle.lookups.specs.Shown.{windowListed}
 use Rattle.lookups.proofs.Left.{at-past}
@@ -124,7 +124,7 @@ abbrev windowWith : ℤ → ℕ → Option ℕ → Window
 windowWith o t u = record { offset = o; start = t; until = u }
 
 listed-window : (w : Window) → windowListedOf (windowListed (some (windowEntry w))) ≡ some w
-listed-window w = ap (λ (u : Option ℕ). some (windowWith (w .offset) (w .start) u)) (back (w .until))
+listed-window w = ap (λ (u : Option ℕ). some (windowWith (w .offset) (w .start) u)) (moment-back (w .until))
 
 pub window-listed : WindowListedMeans
 unfolding windowsIn L.windowAt

@@ -1,10 +1,10 @@
 -- What is shown of a zone and of an entry of an image; a name is shown by its place.
-use mathlib.Core.Bool.{Bool, true, false, _&&_, cond}
-use mathlib.Core.List.{List, [], _∷_}
+use mathlib.Core.Bool.{true, false, _&&_, cond}
+use mathlib.Core.List.{List}
 use mathlib.Core.Option.{Option, none, some}
-use Prim.Native.Nat.{ℕ, zero, suc, _+_, min}
+use Prim.Native.Nat.{ℕ, _+_, min}
 use lib.Dec.{leb, ltb, eqb}
-use lib.IntN.{ℤ, pos}
+use lib.IntN.{pos}
 use Rattle.model.specs.Basics.{keep, last}
 use Rattle.word.specs.Place.{byteAt}
 use Rattle.record.specs.Data.{windowEntry}

@@ -6,11 +6,9 @@ use mathlib.Core.Path.{_≡_, refl, sym, _∙_, ap}
 use Prim.Native.Nat.{ℕ, _+_, _<_, _≤_}
 use native.Mathlib.Omega.{arith}
 use borrow.Author.Tests.{lt-ltb, le-ltb}
-use lib.IntN.{ℤ}
 use lib.ListN.{length, drop}
 use Rattle.model.specs.declared.Refusal.{Refusal}
 use Rattle.model.specs.declared.Refusal.the-variants.{ConstraintError, AttributeNotFound, BadLimits, NoSpace}
-use Rattle.model.specs.Maybe.{optionI32, maybeI32}
 use Rattle.model.specs.Numbers.{refusalNumber}
 use Rattle.model.specs.Answers.{Answer, refused, answers, numberOf}
 use Rattle.model.specs.Output.{copiedOver}
@@ -104,7 +102,3 @@ readable s n e h = by-test (isImage s) (λ i. i) (λ i. let z : n ≡ 8 = e ∙ 
 -- bytes put at the front stand over what was there
 pub put-front : (s bs : List ℕ) → put s 0 bs ≡ copiedOver bs s
 put-front s bs = let e : 0 + length bs ≡ length bs = omega arith in ap (λ (k : ℕ). bs ++ drop k s) e
-
-pub offset-back : (o : Option ℤ) → optionI32 (maybeI32 o) ≡ o
-offset-back none = refl
-offset-back (some z) = refl

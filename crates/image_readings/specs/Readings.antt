@@ -1,7 +1,7 @@
 -- What is read of the device that an image stands for; bytes that are no image are refused with BadLimits.
 use mathlib.Core.Bool.{Bool}
 use mathlib.Core.List.{List}
-use mathlib.Core.Option.{Option, none, some}
+use mathlib.Core.Option.{Option}
 use Prim.Native.Nat.{ℕ}
 use lib.IntN.{ℤ}
 use Rattle.model.specs.Numbers.{granularityNumber, sourceNumber}

@@ -1,13 +1,13 @@
 -- The codes of what a step asks for.
 use mathlib.Core.Bool.{Bool, true, false}
-use mathlib.Core.List.{List, [], _∷_, _++_, map}
+use mathlib.Core.List.{List, [], _++_}
 use mathlib.Core.Option.{Option, none, some}
-use mathlib.Core.Path.{_≡_, refl}
+use mathlib.Core.Path.{_≡_}
 use Prim.Native.Nat.{ℕ, _+_, _*_, _≤_}
 use native.Mathlib.Omega.{arith}
 use Rattle.model.specs.Answers.{Effect}
 use Rattle.model.specs.Bytes.{number}
-use Rattle.model.specs.Codes.{effectCode, returned}
+use Rattle.model.specs.Codes.{returned}
 use Rattle.rtc.specs.Meaning.{momentStored, keptReports}
 use Rattle.time_sync_client.specs.Meaning.{eventEffects}
 use Rattle.image_steps.specs.Effects.{codesOf}

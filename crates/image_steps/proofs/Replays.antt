@@ -1,11 +1,11 @@
 -- What a replay by value says of the replay that copies.
-use mathlib.Core.List.{List, [], _∷_, _++_}
-use mathlib.Core.Path.{_≡_, refl, sym, ap, _∙_}
-use Prim.Native.Nat.{ℕ, suc, _+_, _*_, _-_, _≤_, _<_}
+use mathlib.Core.List.{List, [], _∷_}
+use mathlib.Core.Path.{_≡_, refl, ap, _∙_}
+use Prim.Native.Nat.{ℕ, suc, _*_, _-_, _≤_, _<_}
 use native.Mathlib.Omega.{arith}
 use borrow.Author.Tests.{lt-ltb, le-ltb}
 use lib.ListN.{length, take, replicate, length-append, length-take}
-use lib.Seq.{take-all, length-take-le, take-append-seam}
+use lib.Seq.{take-append-seam}
 use Rattle.model.specs.declared.Refusal.{Refusal}
 use Rattle.model.specs.declared.Refusal.the-variants.{NoSpace}
 use Rattle.model.specs.Answers.{refused, answers}
@@ -20,7 +20,7 @@ use Rattle.record.specs.Written as W
 use Rattle.rules.specs.declared.Verdict.the-variants.{Accepted, TurnedDown}
 use Rattle.time_zone_store.specs.declared.Replayed.{Replayed}
 use Rattle.time_zone_store.specs.Replay.{replayOf}
-use Rattle.image_steps.specs.Replays.{replayed, momentsOf, recordOf, answerOf}
+use Rattle.image_steps.specs.Replays.{replayed, momentsOf, recordOf}
 
 module _ (zones windows : ℕ) (history : List ℕ) (start mr rr : ℕ) (r : Replayed) (e : r ≡ replayOf zones windows history start) where
   pub turned-down : (cause : Refusal) → r .answer ≡ TurnedDown cause → replayed zones windows history start mr rr ≡ refused cause

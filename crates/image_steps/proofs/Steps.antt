@@ -1,7 +1,7 @@
 -- A step of the client on an image is the step by value of what its parts stand for.
-use mathlib.Core.Bool.{true, false, cond}
+use mathlib.Core.Bool.{true, false}
 use mathlib.Core.List.{List}
-use mathlib.Core.Path.{_≡_, refl, ap, _∙_}
+use mathlib.Core.Path.{_≡_}
 use Prim.Native.Nat.{ℕ}
 use Rattle.model.specs.declared.Refusal.the-variants.{BadLimits}
 use Rattle.model.specs.Answers.{refused, answers}

@@ -1,6 +1,6 @@
 -- What a look by value tells, and the look of the definitions.
 use mathlib.Core.Bool.{Bool, true, false, _&&_, cond}
-use mathlib.Core.List.{List, [], _∷_, _++_, map}
+use mathlib.Core.List.{List, _++_}
 use mathlib.Core.Option.{Option, none, some}
 use mathlib.Core.Path.{_≡_, refl, sym, ap, _∙_}
 use Prim.Native.Nat.{ℕ, zero, suc, _+_, _*_, _-_, _≤_, _<_}
@@ -8,13 +8,13 @@ use native.Mathlib.Omega.{arith}
 use borrow.Author.Tests.{lt-ltb, le-ltb}
 use lib.Dec.{leb}
 use lib.IntN.{ℤ, pos}
-use lib.ListN.{length, take, drop, length-take, length-drop}
+use lib.ListN.{length, take, drop, length-drop}
 use lib.Seq.{length-take-le}
 use Rattle.model.specs.declared.MaybeU64.{MaybeU64}
 use Rattle.model.specs.declared.MaybeI32.{MaybeI32}
 use Rattle.model.specs.declared.Refusal.the-variants.{BadLimits, NoSpace}
 use Rattle.model.specs.Basics.{isSome, when, keep, last}
-use Rattle.model.specs.Answers.{refused, answers, emit, TimeZoneStatus, DSTStatus, DSTTableEmpty}
+use Rattle.model.specs.Answers.{refused, answers, TimeZoneStatus, DSTStatus, DSTTableEmpty}
 use Rattle.model.specs.Bytes.{number}
 use Rattle.model.specs.Clock as C
 use Rattle.model.specs.Codes.{returned}
@@ -24,7 +24,7 @@ use Rattle.model.specs.Lookups.{ZoneNow, activeZone, activeOffset, usable, next
 use Rattle.model.specs.Maybe.{optionU64, maybeU64, optionI32, maybeI32}
 use Rattle.model.specs.Timer as T
 use Rattle.model.proofs.Facts.{by-test}
-use Rattle.record.proofs.AtIndex.{back}
+use Rattle.model.proofs.Maybe.{moment-back, offset-back}
 use Rattle.transition_timer.specs.declared.LastSeen.{LastSeen}
 use Rattle.transition_timer.specs.declared.LastSeen.the-variants.{Saw}
 use Rattle.transition_timer.specs.declared.Seen.{Seen}
@@ -36,7 +36,7 @@ use Rattle.image.specs.Parts.{timerIn, deviceIn, clockIn, orZero}
 use Rattle.image.specs.Asked.{markOf, truth, nameOr}
 use Rattle.image_lookups.specs.declared.ZoneShown.{ZoneShown}
 use Rattle.image_lookups.specs.Shown.{shownBy, shownAt, activeIndex}
-use Rattle.image_lookups.specs.Laws.{shownName, zoneNowIn}
+use Rattle.image_lookups.specs.Laws.{zoneNowIn}
 use Rattle.image_lookups.proofs.Entries.{last-hit, last-miss, last-over}
 use Rattle.image_lookups.proofs.Views.{active-shown}
 use Rattle.image_steps.specs.declared.timer.Told.{Told}
@@ -167,10 +167,6 @@ sleeps : (o : Option ℕ) (now : ℕ) → sleepOf (sleepBy o now) ≡ T.sleepUnt
 sleeps none now = refl
 sleeps (some n) now = refl
 
-offset-back : (o : Option ℤ) → optionI32 (maybeI32 o) ≡ o
-offset-back none = refl
-offset-back (some z) = refl
-
 module _ (s : List ℕ) (last : LastSeen) (utc : ℕ) where
   abbrev l : Lists
   l = listsIn s
@@ -199,7 +195,7 @@ module _ (s : List ℕ) (last : LastSeen) (utc : ℕ) where
       by-parts z a u zs ds de new (optionU64 next) p en e1 e2 e3 ep
       ∙ same-look (zoneNowIn s z) a u (optionU64 next) (ap (zoneNowIn s) ez ∙ active-shown s utc)
       (ea ∙ ap (λ (x : MaybeI32). isSome (optionI32 x)) em ∙ ap isSome (offset-back (activeOffset l utc))) eu
-      (ap optionU64 ex ∙ back (nextTransition l utc))
+      (ap optionU64 ex ∙ moment-back (nextTransition l utc))
 
 -- ## The name stands in the image
 

@@ -1,7 +1,7 @@
 -- A whole history on a new list store: what is answered and copied.
 use mathlib.Core.List.{List}
 use Prim.Native.Nat.{ℕ, suc}
-use lib.ListN.{length, take}
+use lib.ListN.{take}
 use Rattle.model.specs.Answers.{Answer, refused, answers}
 use Rattle.model.specs.Bytes.{recordBytes}
 use Rattle.model.specs.Output.{momentsBytes}

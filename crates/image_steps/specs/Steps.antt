@@ -1,10 +1,9 @@
 -- What a look of the timer and a step of the client answer, ask for and leave in an image.
-use mathlib.Core.Bool.{Bool, true, false, cond}
+use mathlib.Core.Bool.{Bool, false, cond}
 use mathlib.Core.List.{List, [], _∷_, map}
-use mathlib.Core.Option.{Option, none, some}
+use mathlib.Core.Option.{Option, none}
 use Prim.Native.Nat.{ℕ}
 use lib.Dec.{eqb}
-use lib.IntN.{ℤ, pos}
 use Rattle.model.specs.Lists.{Name}
 use Rattle.model.specs.Answers.{Answer, answers, numberOf, Event, DSTTableEmpty, DSTStatus, TimeZoneStatus, TimeFailure, MissingTrustedTimeSource, Effect, emit}
 use Rattle.model.specs.Codes.{returned}
@@ -16,7 +15,7 @@ use Rattle.model.specs.Timer.{Look, Sleep, never, untilWoken, atMost}
 use Rattle.model.specs.Retries as R
 use Rattle.model.specs.Retries.{Outcome, told, failed, Step, Next, attemptNow, waitFor, waitForSource}
 use Rattle.image.specs.Parts.{deviceIn, timerIn, clientIn, clockIn, withTimer, withClock, withClient}
-use Rattle.image.specs.Asked.{given, asked, roomy, leaves, nameOr}
+use Rattle.image.specs.Asked.{asked, roomy, leaves, nameOr}
 
 -- ## A look of the timer
 

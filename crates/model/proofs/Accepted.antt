@@ -1,12 +1,12 @@
 -- What acceptance gives: a list no longer than its limit, and of each entry what its rule demands. The lists after any calls have it.
-use mathlib.Core.Bool.{Bool, true, false, not, Bool·beq}
+use mathlib.Core.Bool.{Bool, true, false, Bool·beq}
 use mathlib.Core.List.{List, [], _∷_, _++_}
 use mathlib.Core.Option.{Option, none, some}
-use mathlib.Core.Path.{_≡_, refl, sym, ap, _∙_}
-use Prim.Native.Nat.{ℕ, zero, suc, _+_, _*_, _-_, _≤_, _<_}
+use mathlib.Core.Path.{_≡_, refl, ap}
+use Prim.Native.Nat.{ℕ, suc, _+_, _*_, _-_, _≤_, zero}
 use native.Mathlib.Omega.{arith}
 use borrow.Author.Tests.{eqb-true, eqb-false, not-true, le-ltb}
-use lib.Dec.{leb, ltb, eqb}
+use lib.Dec.{ltb, eqb}
 use lib.ListN.{length, length-append}
 use Rattle.model.specs.declared.Refusal.{Refusal}
 use Rattle.model.specs.Basics.{keep, different}
@@ -17,7 +17,7 @@ use Rattle.model.specs.Lookups.{zoneStarts, windowBounds, endThen, bound
 use Rattle.model.specs.Walk.{differentLater}
 use Rattle.model.specs.History.{Call, SetTimeZone, SetDSTOffset, Load, FactoryReset, ifAccepted, asBadRecord, recordVerdict, zonesSet, windowsSet, recordLoaded, loaded, after}
 use Rattle.model.specs.Demand3.{Accepted}
-use Rattle.model.proofs.Facts.{by-test, length-keep, length-different}
+use Rattle.model.proofs.Facts.{length-keep, length-different}
 
 demanded : (t : Bool) (cause : Refusal) (rest : Verdict) → demand t cause rest ≡ accepted → (t ≡ true) × (rest ≡ accepted)
 unfolding demand

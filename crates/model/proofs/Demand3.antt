@@ -3,14 +3,13 @@ use mathlib.Core.Bool.{Bool, true, false, _&&_, cond}
 use mathlib.Core.List.{List, [], _∷_}
 use mathlib.Core.Option.{Option, none, some}
 use mathlib.Core.Path.{_≡_, refl, sym, ap, _∙_}
-use Prim.Native.Nat.{ℕ, suc, _≤_}
+use Prim.Native.Nat.{ℕ, _≤_}
 use native.Mathlib.Omega.{arith}
 use borrow.Author.Tests.{leb-true}
-use lib.Dec.{leb}
 use Rattle.model.specs.declared.Refusal.the-variants.{BadLimits}
 use Rattle.model.specs.Basics.{run}
 use Rattle.model.specs.Lists.{Zone, Window, Lists, empty}
-use Rattle.model.specs.Answers.{Answer, refused, answers}
+use Rattle.model.specs.Answers.{refused, answers}
 use Rattle.model.specs.Rules.{Rules, allowed, Verdict, accepted, turnedDown, testZones, testWindows}
 use Rattle.model.specs.Bytes.{readZones, readWindows, readRecord}
 use Rattle.model.specs.History.{Call, SetTimeZone, SetDSTOffset, Load, FactoryReset, zonesVerdict, recordVerdict, loadVerdict, verdict, after}

@@ -14,3 +14,4 @@ pub mod ReadBack
 pub mod Stored
 pub mod Table
 pub mod Range
+pub mod Maybe

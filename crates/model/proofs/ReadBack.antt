@@ -1,9 +1,9 @@
 -- Bytes that are readable are the writing of what they read as, whose numbers fit their types.
-use mathlib.Core.Bool.{Bool, true, false, cond}
+use mathlib.Core.Bool.{Bool, true, false}
 use mathlib.Core.List.{List, [], _∷_, _++_, append-assoc, append-nil}
 use mathlib.Core.Option.{Option, none, some}
 use mathlib.Core.Path.{_≡_, refl, sym, ap, subst, _∙_}
-use Prim.Native.Nat.{ℕ, zero, suc, _+_, _^_, _≤_, _<_}
+use Prim.Native.Nat.{ℕ, zero, suc, _^_, _<_}
 use native.Mathlib.Omega.{arith}
 use borrow.Author.Tests.{leb-true}
 use lib.Dec.{leb}
@@ -13,7 +13,7 @@ use lib.Seq.{length-take-le}
 use Rattle.model.specs.Basics.{All}
 use Rattle.model.specs.Lists.{Name, Zone, Window, Lists}
 use Rattle.model.specs.Bytes.{bytes, number, bitsOf, signed, wellFormed, nameBytes, zoneBytes, untilBytes, windowBytes, allBytes, sectionBytes, zonesBytes, windowsBytes, recordBytes, Front, then, takeBytes, byte, named, readName, readUntil, readEntry, makeZone, makeWindow, readZone, readWindow, readAll, readSection, whole, nothingLeft, readSections, readZones, readWindows, readRecord}
-use Rattle.model.specs.RoundTrip.{AreBytes, IsOffset, IsMoment, IsName, IsUntil, ZoneFits, WindowFits, ZonesFit, WindowsFit, ListsFit, ZonesWritten, WindowsWritten, RecordWritten}
+use Rattle.model.specs.RoundTrip.{AreBytes, IsOffset, IsMoment, IsName, IsUntil, ZoneFits, WindowFits, ListsFit, ZonesWritten, WindowsWritten, RecordWritten}
 use Rattle.model.proofs.Facts.{by-test, All-left, All-right}
 use Rattle.model.proofs.Words.{number-below, bytes-number, bits-signed, signed-fits}
 

@@ -2,23 +2,22 @@
 use mathlib.Core.Bool.{Bool, true, false, _&&_}
 use mathlib.Core.List.{List, [], _∷_, _++_}
 use mathlib.Core.Option.{Option, none, some}
-use mathlib.Core.Path.{_≡_, refl, sym, ap, _∙_}
-use Prim.Native.Nat.{ℕ, zero, suc, _+_, _*_, _≤_, _<_}
+use mathlib.Core.Path.{_≡_, refl, ap, _∙_}
+use Prim.Native.Nat.{ℕ, suc, _*_, _≤_}
 use native.Mathlib.Omega.{arith}
 use borrow.Author.Tests.{leb-true}
 use lib.Dec.{leb, lit<, lit≤}
 use lib.ListN.{length, length-append}
 use Rattle.model.specs.Basics.{All, run}
 use Rattle.model.specs.Lists.{Name, Zone, Window, Lists, empty}
-use Rattle.model.specs.Rules.{Rules, allowed, Verdict, accepted, turnedDown, testFrom, nameFits, zoneRule, testZones, testWindows}
+use Rattle.model.specs.Rules.{Rules, allowed, Verdict, accepted, testFrom, nameFits, zoneRule, testZones, testWindows}
 use Rattle.model.specs.Bytes.{bytes, bitsOf, nameBytes, zoneBytes, untilBytes, windowBytes, allBytes, zonesBytes, windowsBytes, recordBytes, readZones, readWindows, readRecord}
-use Rattle.model.specs.History.{Call, SetTimeZone, SetDSTOffset, Load, FactoryReset, recordVerdict, verdict, ifAccepted, zonesSet, windowsSet, recordLoaded, after, listsAfter}
+use Rattle.model.specs.History.{Call, SetTimeZone, SetDSTOffset, Load, FactoryReset, recordVerdict, verdict, ifAccepted, zonesSet, windowsSet, recordLoaded, after}
 use Rattle.model.specs.Output.{SizedCall, noSpace, afterSized}
 use Rattle.model.specs.Demand3.{Accepted}
 use Rattle.model.specs.RoundTrip.{AreBytes, ZonesFit, WindowsFit, ListsFit, ReadsBack, AcceptedReadsBack, CallBytes, StoredReadsBack, StoredReadsBackSized}
 use Rattle.model.proofs.Accepted.{entry, zone-meets, accepted-record, kept-empty, kept-after, either, zones-fit, windows-fit}
 use Rattle.model.proofs.Facts.{by-test, run-keeps}
-use Rattle.model.proofs.Demand3.{kept-sized}
 use Rattle.model.proofs.Words.{length-bytes}
 use Rattle.model.proofs.ReadBack.{zones-written, windows-written, record-written}
 use Rattle.model.proofs.WriteBack.{record-back}

@@ -6,7 +6,7 @@ use Prim.Native.Nat.{ℕ}
 use Rattle.model.specs.Lists.{Window}
 use Rattle.model.specs.Rules.{Verdict, accepted, turnedDown, testWindows}
 use Rattle.model.specs.Bytes.{readWindows}
-use Rattle.model.specs.History.{Call, SetTimeZone, SetDSTOffset, Load, FactoryReset, windowsVerdict, verdict}
+use Rattle.model.specs.History.{SetTimeZone, SetDSTOffset, Load, FactoryReset, windowsVerdict, verdict}
 use Rattle.model.specs.Store.{Store, timeZoneSet, setTimeZone, windowsTested, windowsRead, setDSTOffset, storeLoaded, load, factoryReset}
 use Rattle.model.specs.Claims.{verdictOf, AnswersVerdict}
 

@@ -1,18 +1,18 @@
 -- On accepted windows at most one is active, so the first active one is the last.
-use mathlib.Core.Bool.{Bool, true, false, not, _&&_, cond}
+use mathlib.Core.Bool.{Bool, true, false, not, _&&_}
 use mathlib.Core.List.{List, [], _∷_}
 use mathlib.Core.Option.{Option, none, some}
-use mathlib.Core.Path.{_≡_, refl, sym, ap, _∙_}
+use mathlib.Core.Path.{_≡_, refl}
 use Prim.Native.Nat.{ℕ, suc, _≤_, _<_}
 use native.Mathlib.Omega.{arith}
 use borrow.Author.Tests.{ltb-true, leb-true, leb-false, lt-ltb, lt-leb, not-true}
 use lib.Dec.{leb, ltb}
 use lib.ListN.{length}
 use Rattle.model.specs.Basics.{keep, first, last}
-use Rattle.model.specs.Lists.{Window, Lists}
-use Rattle.model.specs.Rules.{Rules, accepted, testFrom, windowRule, reached, testWindows}
+use Rattle.model.specs.Lists.{Window}
+use Rattle.model.specs.Rules.{accepted, testFrom, windowRule, reached, testWindows}
 use Rattle.model.specs.Lookups.{notEnded, isActive, activeWindow, lastActiveWindow}
-use Rattle.model.specs.Claims.{OneActive, AtMostOneActive}
+use Rattle.model.specs.Claims.{AtMostOneActive}
 use Rattle.model.proofs.Facts.{by-test}
 use Rattle.model.proofs.Accepted.{entry, window-meets}
 

@@ -1,20 +1,19 @@
 -- What is written reads back.
-use mathlib.Core.Bool.{Bool, true, false, cond}
 use mathlib.Core.List.{List, [], _∷_, _++_, append-assoc, append-nil}
 use mathlib.Core.Option.{Option, none, some}
 use mathlib.Core.Path.{_≡_, refl, sym, ap, _∙_}
-use Prim.Native.Nat.{ℕ, zero, suc, _+_, _^_, _≤_, _<_}
+use Prim.Native.Nat.{ℕ, _≤_}
 use native.Mathlib.Omega.{arith}
 use borrow.Author.Tests.{le-leb}
-use lib.Dec.{leb}
 use lib.IntN.{ℤ}
-use lib.ListN.{length, take, drop, length-append}
+use lib.ListN.{length, length-append}
 use lib.Seq.{take-at, drop-at}
 use Rattle.model.specs.Basics.{All}
 use Rattle.model.specs.Lists.{Name, Zone, Window, Lists}
-use Rattle.model.specs.Bytes.{bytes, number, bitsOf, signed, wellFormed, nameBytes, zoneBytes, untilBytes, windowBytes, allBytes, sectionBytes, zonesBytes, windowsBytes, recordBytes, Front, then, takeBytes, byte, named, readName, readUntil, readEntry, makeZone, makeWindow, readZone, readWindow, readAll, readSection, whole, nothingLeft, readZones, readWindows, readRecord}
+use Rattle.model.specs.Bytes.{bytes, bitsOf, nameBytes, zoneBytes, untilBytes, windowBytes, allBytes, sectionBytes, zonesBytes, windowsBytes, recordBytes, Front, then, takeBytes, named, readName, readUntil, readEntry, makeZone, makeWindow, readZone, readWindow, readAll, readSection, whole, readZones, readWindows, readRecord}
 use Rattle.model.specs.RoundTrip.{IsOffset, IsMoment, IsName, IsUntil, ZoneFits, WindowFits, ZonesBack, WindowsBack, RecordBack}
 use Rattle.model.proofs.Words.{length-bytes, number-bytes, signed-bits, bits-below}
+use lib.Dec.{leb}
 
 -- so many bytes off the front
 front : (n : ℕ) (xs ys : List ℕ) → length xs ≡ n → takeBytes n (xs ++ ys) ≡ some (xs, ys)

@@ -11,7 +11,7 @@ use Rattle.model.specs.declared.TimeSource.the-variants as S
 use Rattle.model.specs.declared.Refusal.the-variants.{BadRecord}
 use Rattle.model.specs.Numbers.{granularityNumber, sourceNumber}
 use Rattle.model.specs.Basics.{heldAtTop, isSome, when}
-use Rattle.model.specs.Answers.{Answer, answers, Done, done, Attribute, UTCTime, Granularity, TrustedTimeSource, MissingTrustedTimeSource, TrustedSource, Effect, report, emit, storeMoment, removeMoment, storeSource, removeSource, Result, unchanged}
+use Rattle.model.specs.Answers.{answers, done, Attribute, UTCTime, Granularity, TrustedTimeSource, MissingTrustedTimeSource, TrustedSource, Effect, report, emit, storeMoment, removeMoment, storeSource, removeSource, Result, unchanged}
 
 pub record Clock : Type 0 where
   -- the UTC number: the moment last set, or the last known one

@@ -1,5 +1,5 @@
 -- The handler, `TimeSyncHandler`: commands and readings of a device that has a clock and maybe a list store.
-use mathlib.Core.Bool.{Bool, true, false, cond}
+use mathlib.Core.Bool.{Bool, true, false}
 use mathlib.Core.List.{List, [], _∷_, _++_}
 use mathlib.Core.Option.{Option, none, some}
 use Prim.Native.Nat.{ℕ, zero, suc}
@@ -8,16 +8,15 @@ use lib.ListN.{length}
 use Rattle.model.specs.declared.TimeGranularity.{TimeGranularity}
 use Rattle.model.specs.declared.TimeSource.{TimeSource}
 use Rattle.model.specs.declared.TimeSource.the-variants.{Admin}
-use Rattle.model.specs.declared.Refusal.{Refusal}
 use Rattle.model.specs.declared.Refusal.the-variants.{Unreadable, ConstraintError, InvalidCommand, CommandNotFound, AttributeNotFound}
 use Rattle.model.specs.Numbers.{granularityOf, sourceOf}
 use Rattle.model.specs.Basics.{isSome, when}
 use Rattle.model.specs.Lists.{Zone, Window, Lists}
-use Rattle.model.specs.Answers.{Answer, refused, answers, Done, done, TrustedSource, Effect, wakeTimer, wakeClient, Result, unchanged}
+use Rattle.model.specs.Answers.{Answer, refused, answers, done, TrustedSource, wakeTimer, wakeClient, Result, unchanged}
 use Rattle.model.specs.Lookups as L
 use Rattle.model.specs.Walk.{Walk, walk}
 use Rattle.model.specs.Clock as C
-use Rattle.model.specs.Clock.{Clock, Reading}
+use Rattle.model.specs.Clock.{Clock}
 use Rattle.model.specs.Store as T
 use Rattle.model.specs.Store.{Store}
 use Rattle.model.specs.LocalTime.{localTime}

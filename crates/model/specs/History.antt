@@ -2,7 +2,6 @@
 use mathlib.Core.List.{List, []}
 use mathlib.Core.Option.{Option, none, some}
 use Prim.Native.Nat.{ℕ}
-use Rattle.model.specs.declared.Refusal.{Refusal}
 use Rattle.model.specs.declared.Refusal.the-variants.{Unreadable, BadRecord}
 use Rattle.model.specs.Basics.{run}
 use Rattle.model.specs.Lists.{Zone, Window, Lists, empty}

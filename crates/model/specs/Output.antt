@@ -1,5 +1,5 @@
 -- Calls that copy bytes into an output slice: NoSpace where the slice is too short, and what a history with such calls makes of the lists.
-use mathlib.Core.Bool.{Bool, true, false, cond}
+use mathlib.Core.Bool.{Bool, false, cond}
 use mathlib.Core.List.{List, _++_}
 use mathlib.Core.Option.{Option, none, some}
 use Prim.Native.Nat.{ℕ}

@@ -1,6 +1,6 @@
 -- The client, `TimeSyncClient`: attempts, waits and hourly marks, one step per event.
 use mathlib.Core.Bool.{Bool, true, false, _&&_, cond}
-use mathlib.Core.List.{List, [], _∷_, _++_}
+use mathlib.Core.List.{List, [], _++_}
 use mathlib.Core.Option.{Option, none, some}
 use Prim.Native.Nat.{ℕ, _+_, _*_, min}
 use lib.Dec.{leb}

@@ -1,13 +1,12 @@
 -- The list store, `TimeZoneStore`: its calls, with what they leave, their answers and their effects.
-use mathlib.Core.Bool.{Bool, true, false, cond}
+use mathlib.Core.Bool.{Bool, true, cond}
 use mathlib.Core.List.{List, [], _∷_}
 use mathlib.Core.Option.{Option, none, some}
 use Prim.Native.Nat.{ℕ, _+_, _%_, _^_}
-use Rattle.model.specs.declared.Refusal.{Refusal}
 use Rattle.model.specs.declared.Refusal.the-variants.{Unreadable, BadLimits}
 use Rattle.model.specs.Basics.{run}
 use Rattle.model.specs.Lists.{Window, Lists, empty}
-use Rattle.model.specs.Answers.{Answer, refused, answers, Done, done, report, wakeTimer, storeRecord, removeRecord, TimeZone, DSTOffset, Effect, Result, unchanged}
+use Rattle.model.specs.Answers.{Answer, refused, answers, done, report, wakeTimer, storeRecord, removeRecord, TimeZone, DSTOffset, Result, unchanged}
 use Rattle.model.specs.Rules.{Rules, allowed, Verdict, accepted, turnedDown, testWindows}
 use Rattle.model.specs.Bytes.{recordBytes, readWindows}
 use Rattle.model.specs.History.{Call, SetTimeZone, SetDSTOffset, Load, FactoryReset, verdict, after}

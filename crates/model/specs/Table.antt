@@ -1,5 +1,5 @@
 -- The moments at the edge, P1 to P12, as rows of one table under one claim. Limits 2 and 2, clock reliable.
-use mathlib.Core.Bool.{Bool, true, false}
+use mathlib.Core.Bool.{Bool, false}
 use mathlib.Core.List.{List, [], _∷_}
 use mathlib.Core.Option.{Option, none, some}
 use mathlib.Core.Path.{_≡_}
@@ -8,13 +8,13 @@ use lib.IntN.{ℤ, pos, negℤ}
 use Rattle.model.specs.declared.Refusal.the-variants.{ConstraintError, ResourceExhausted}
 use Rattle.model.specs.Basics.{All}
 use Rattle.model.specs.Lists.{Zone, Window, Lists, empty}
-use Rattle.model.specs.Answers.{Answer, answers, TrustedSource}
+use Rattle.model.specs.Answers.{answers}
 use Rattle.model.specs.Rules.{device, Verdict, accepted, turnedDown, testZones, testWindows}
 use Rattle.model.specs.Lookups.{ZoneNow, activeZone, usable}
 use Rattle.model.specs.Clock.{Clock, fresh, withTrusted, reliable}
 use Rattle.model.specs.LocalTime.{localTime}
 use Rattle.model.specs.Timer.{Timer, Sleep, atMost, look}
-use Rattle.model.specs.Retries.{Client, newClient, Outcome, failed, attempt, Next, waitFor}
+use Rattle.model.specs.Retries.{Client, newClient, failed, attempt, Next, waitFor}
 
 -- ## The kinds of rows
 

@@ -1,8 +1,7 @@
 -- Texts written over zeros, and what is printed of lists that were read.
-use mathlib.Core.Bool.{cond}
-use mathlib.Core.List.{List, [], _∷_, _++_}
+use mathlib.Core.List.{List, _++_}
 use mathlib.Core.Option.{Option, none, some}
-use mathlib.Core.Path.{_≡_, refl, sym, ap, subst, _∙_}
+use mathlib.Core.Path.{_≡_, refl, sym, ap, _∙_}
 use Prim.Native.Nat.{ℕ, _+_, _-_, _≤_, _<_}
 use native.Mathlib.Omega.{arith}
 use borrow.Author.Tests.{lt-ltb, le-ltb, le-leb}
@@ -20,14 +19,13 @@ use Rattle.model.proofs.Accepted.{zones-fit, windows-fit, record-accepted}
 use Rattle.record.specs.declared.TimeZoneStoreData.{TimeZoneStoreData}
 use Rattle.record.specs.Data.{listsOf}
 use Rattle.record.proofs.Again.{data-same}
-use Rattle.record.proofs.Writes.{zeros, length-zeros, drop-zeros}
+use Rattle.record.proofs.Writes.{zeros, drop-zeros}
 use Rattle.rules.specs.declared.Verdict.{Verdict}
 use Rattle.rules.specs.declared.Verdict.the-variants.{Accepted, TurnedDown}
 use Rattle.rules.specs.Verdicts.{recordTested}
 use Rattle.rules.proofs.Agree.{records-are, is-accepted, is-turned-down}
 use Rattle.taken.specs.ByValue.{listsTaken}
 use Rattle.taken.proofs.Whole.{lists-whole}
-use Rattle.schedule_text.specs.declared.Text.{Text}
 use Rattle.schedule_text.specs.Texts.{textOf}
 use Rattle.schedule_text.proofs.Words.{Columns}
 

@@ -2,14 +2,13 @@
 use mathlib.Core.Bool.{Bool, true, false}
 use mathlib.Core.List.{List, [], _∷_, _++_}
 use mathlib.Core.Option.{Option, none, some}
-use mathlib.Core.Path.{_≡_, refl, sym, ap, subst, _∙_}
+use mathlib.Core.Path.{_≡_, refl, sym, subst}
 use Prim.Native.Nat.{ℕ, suc, _+_, _≤_, _<_}
 use native.Mathlib.Omega.{arith}
 use lib.Dec.{T}
 use lib.IntN.{ℤ, pos, negsuc}
 use lib.ListN.{length, set, length-append}
 use lib.Signed.{leZ}
-use Rattle.model.specs.Maybe.{optionI32, maybeI32}
 use Rattle.model.specs.Lists.{Lists}
 use Rattle.model.specs.Lookups.{activeZone, activeOffset, usable}
 use Rattle.model.specs.Schedule.{decimal, signedDecimal, offsetOrDash, yesOrNo, space, newLine, line}
@@ -26,11 +25,6 @@ Put s at bs out next = (out ≡ put s at bs) × (next ≡ at + length bs)
 -- the same bytes
 pub put-as : (s : List ℕ) (at : ℕ) (out : List ℕ) (next : ℕ) {bs cs : List ℕ} → bs ≡ cs → Put s at bs out next → Put s at cs out next
 put-as s at out next e p = subst (λ (l : List ℕ). Put s at l out next) e p
-
--- an offset, or none, as the enum has it
-pub offset-back : (o : Option ℤ) → optionI32 (maybeI32 o) ≡ o
-offset-back none = refl
-offset-back (some z) = refl
 
 -- ## Signs
 

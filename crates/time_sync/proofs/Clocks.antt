@@ -7,10 +7,10 @@ use Prim.Native.Nat.{ℕ}
 use Rattle.model.specs.declared.TimeGranularity.{TimeGranularity}
 use Rattle.model.specs.declared.TimeSource.the-variants.{Admin}
 use Rattle.model.specs.declared.Refusal.the-variants.{BadRecord}
-use Rattle.model.specs.Maybe.{optionU64, maybeU64}
 use Rattle.model.specs.Basics.{isSome, when}
 use Rattle.model.specs.Answers.{done, TrustedTimeSource, MissingTrustedTimeSource, TrustedSource, report, emit, unchanged}
 use Rattle.model.specs.Clock.{Clock, load, loadedClock, noFabric, resetPersist, fresh, setUtcTime, sameSource, sourceInFlash, setTrustedTimeSource, setTrustedTimeSourcePersist}
+use Rattle.model.proofs.Maybe.{moment-back}
 use Rattle.rules.specs.declared.Verdict.{Verdict}
 use Rattle.rules.specs.declared.Verdict.the-variants.{Accepted, TurnedDown}
 use Rattle.rtc.specs.declared.Rtc.{Rtc}
@@ -28,10 +28,6 @@ use Rattle.time_sync.specs.Handled.{withClock, utcTimeTaken, storedAs, s
 
 -- ## The way back and forth
 
-moment-there : (o : Option ℕ) → optionU64 (maybeU64 o) ≡ o
-moment-there none = refl
-moment-there (some n) = refl
-
 source-there : (o : Option TrustedSource) → optionSource (maybeSource o) ≡ o
 source-there none = refl
 source-there (some s) = refl
@@ -42,7 +38,7 @@ clock-there c = λ i. record {
   persisted = c .persisted;
   granularity = c .granularity;
   source = c .source;
-  anchor = moment-there (c .anchor) i;
+  anchor = moment-back (c .anchor) i;
   trusted = source-there (c .trusted) i;
 }
 

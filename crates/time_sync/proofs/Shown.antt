@@ -1,8 +1,7 @@
 -- A look on a device, and what the timer and LocalTime are handed.
 use mathlib.Core.Bool.{Bool, true, false, cond}
 use mathlib.Core.Option.{Option, none, some}
-use mathlib.Core.Path.{_≡_, refl, sym, ap, _∙_}
-use Prim.Native.Nat.{ℕ}
+use mathlib.Core.Path.{_≡_, refl, ap, _∙_}
 use Rattle.model.specs.Lists.{Lists}
 use Rattle.model.specs.Clock.{Reading, reliable, lastKnown, reading}
 use Rattle.model.specs.Handler as H
@@ -13,8 +12,7 @@ use Rattle.rtc.specs.declared.UtcTime.the-variants.{Reliable, LastKnown}
 use Rattle.rtc.specs.Meaning.{clockOf, readingOf}
 use Rattle.time_zone_store.specs.declared.TimeZoneStore.{TimeZoneStore}
 use Rattle.time_zone_store.specs.Stores.{storeOf}
-use Rattle.transition_timer.specs.declared.LastSeen.{LastSeen}
-use Rattle.transition_timer.specs.Meaning.{timerOf, lookBy}
+use Rattle.transition_timer.specs.Meaning.{timerOf}
 use Rattle.transition_timer.proofs.Same.{same-look}
 use Rattle.time_sync.specs.Panel.{timeOf, LookMeans}
 

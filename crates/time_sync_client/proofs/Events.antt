@@ -10,7 +10,7 @@ use lib.Dec.{leb}
 use Rattle.model.specs.Basics.{isSome, keep, when}
 use Rattle.model.specs.Answers.{Effect}
 use Rattle.model.specs.Clock.{Clock, setUtcTime, setUtcTimePersist}
-use Rattle.model.specs.Retries.{TIME_EVENTS_INTERVAL, Client, Refresh, Applied, NoTime, NoSource, Failure, refresh, due, marked, sourceMissing, timeMissing, eventsOf, clockEffects, attemptOf, sourceChanged}
+use Rattle.model.specs.Retries.{Client, Refresh, Applied, NoTime, NoSource, Failure, refresh, due, marked, sourceMissing, timeMissing, eventsOf, clockEffects, attemptOf, sourceChanged, TIME_EVENTS_INTERVAL}
 use Rattle.model.proofs.Facts.{by-test, All-map}
 use Rattle.time_sync_client.specs.Runs.{Input, attempted, changed, Kind, missingSource, timeFailure, emits, emittedAt, emissions, Apart}
 use Rattle.time_sync_client.specs.Laws.{EventsApart}

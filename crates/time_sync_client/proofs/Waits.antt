@@ -10,7 +10,7 @@ use lib.Pow.{pow-pos}
 use borrow.Author.Tests.{leb-true, leb-false}
 use Rattle.model.specs.Basics.{isSome, All, run}
 use Rattle.model.specs.Clock.{Clock}
-use Rattle.model.specs.Retries.{RETRY_MIN, Client, Refresh, Applied, NoTime, NoSource, Failure, refresh, firstRetry, doubled, Step, attemptOf, waitFor, sourceChanged}
+use Rattle.model.specs.Retries.{Client, Refresh, Applied, NoTime, NoSource, Failure, refresh, firstRetry, doubled, Step, attemptOf, waitFor, sourceChanged, RETRY_MIN}
 use Rattle.model.proofs.Facts.{by-test}
 use Rattle.time_sync_client.specs.Runs.{Input, attempted, changed, step, clientAfter, Applies, BacksOff, Fails}
 use Rattle.time_sync_client.specs.Laws.{PeriodStays, StartsOver, RetryDoubles, WaitDoubles}

@@ -4,7 +4,7 @@ use mathlib.Core.Path.{_≡_}
 use Prim.Native.Nat.{ℕ, _*_, _^_, min}
 use lib.ListN.{length}
 use Rattle.model.specs.Basics.{All}
-use Rattle.model.specs.Retries.{RETRY_MIN, TIME_EVENTS_INTERVAL, Client, firstRetry, waitFor}
+use Rattle.model.specs.Retries.{Client, firstRetry, waitFor, RETRY_MIN, TIME_EVENTS_INTERVAL}
 use Rattle.rtc.specs.Laws.{Injective}
 use Rattle.time_sync_client.specs.Meaning.{clientOf, optionUtc, optionNumber, toldOf, outcomeOf, refreshOf, nextOf, effectsOf, stepOf}
 use Rattle.time_sync_client.specs.Runs.{Input, step, clientAfter, Fails, Restarts, Kind, emissions, Apart}

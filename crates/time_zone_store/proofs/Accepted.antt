@@ -1,8 +1,8 @@
 -- What an accepted request or record is copied as.
 use mathlib.Core.List.{List, []}
 use mathlib.Core.Option.{Option, none, some}
-use mathlib.Core.Path.{_≡_, refl, sym, ap, _∙_}
-use Prim.Native.Nat.{ℕ, _≤_}
+use mathlib.Core.Path.{_≡_, sym, ap, _∙_}
+use Prim.Native.Nat.{_≤_}
 use native.Mathlib.Omega.{arith}
 use Rattle.model.specs.Lists.{Zone, Window, Lists}
 use Rattle.model.specs.Rules as M

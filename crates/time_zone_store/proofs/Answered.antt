@@ -1,23 +1,22 @@
 -- What a run of a whole history answers: demand 3.
-use mathlib.Core.Bool.{Bool, true, false}
+use mathlib.Core.Bool.{true, false}
 use mathlib.Core.List.{List}
 use mathlib.Core.Option.{Option, none, some}
-use mathlib.Core.Path.{_≡_, refl, sym, ap, _∙_}
+use mathlib.Core.Path.{_≡_, refl, ap, _∙_}
 use Prim.Native.Nat.{ℕ}
 use Rattle.model.specs.declared.Refusal.{Refusal}
 use Rattle.model.specs.declared.Refusal.the-variants.{Unreadable}
 use Rattle.model.specs.Basics.{isSome}
 use Rattle.model.specs.Rules.{allowed}
-use Rattle.model.specs.History.{Call, listsAfter}
+use Rattle.model.specs.History.{Call}
 use Rattle.rules.specs.declared.Verdict.{Verdict}
 use Rattle.rules.specs.declared.Verdict.the-variants.{Accepted, TurnedDown}
 use Rattle.history.specs.Calls.{readCalls}
 use Rattle.time_zone_store.specs.declared.TimeZoneStore.{TimeZoneStore}
-use Rattle.time_zone_store.specs.declared.StoreAnswer.{StoreAnswer}
 use Rattle.time_zone_store.specs.declared.Replayed.{Replayed}
 use Rattle.time_zone_store.specs.Stores.{newStore}
 use Rattle.time_zone_store.specs.Meaning.{limits}
-use Rattle.time_zone_store.specs.Replay.{replayedThrough, notReplayed, historyRun, replayedBy, replayOf, Replays, ReplayClaim}
+use Rattle.time_zone_store.specs.Replay.{replayedThrough, notReplayed, historyRun, replayedBy, replayOf, ReplayClaim}
 use Rattle.time_zone_store.proofs.Claim.{demand3-stands}
 
 module _ (zones windows : ℕ) (history : List ℕ) (start : ℕ) where

@@ -1,17 +1,15 @@
 -- What each call leaves and answers, from the verdict on its bytes.
 use mathlib.Core.List.{List, []}
 use mathlib.Core.Option.{some}
-use mathlib.Core.Path.{_≡_, refl, sym, ap, _∙_}
-use Prim.Native.Nat.{ℕ, _≤_, min}
+use mathlib.Core.Path.{_≡_, sym, ap, _∙_}
+use Prim.Native.Nat.{ℕ, min}
 use native.Mathlib.Omega.{arith}
 use Rattle.model.specs.declared.Refusal.{Refusal}
-use Rattle.model.specs.Rules as M
 use Rattle.model.specs.Bytes.{readZones, readWindows, readRecord}
 use Rattle.model.specs.History.{SetTimeZone, SetDSTOffset, Load, verdict, after}
-use Rattle.record.specs.declared.TimeZoneStoreData.{TimeZoneStoreData}
 use Rattle.record.specs.Data.{listsOf}
 use Rattle.rules.specs.declared.Verdict.the-variants.{Accepted, TurnedDown}
-use Rattle.rules.specs.Verdicts.{verdictOf, zonesTested, windowsTested, recordTested}
+use Rattle.rules.specs.Verdicts.{zonesTested, windowsTested, recordTested}
 use Rattle.rules.proofs.Agree.{zones-are, windows-are, records-are, is-accepted, is-turned-down}
 use Rattle.taken.specs.declared.DSTOffsets.{DSTOffsets}
 use Rattle.taken.specs.ByValue.{firstWindows, bothOf, zonesTaken, windowsTaken, listsTaken}

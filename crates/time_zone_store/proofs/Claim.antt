@@ -1,14 +1,11 @@
 -- Demand 3 of stores by value, from demand 3 over the definitions.
 use mathlib.Core.List.{[], _∷_}
-use mathlib.Core.Option.{Option, none, some}
 use mathlib.Core.Path.{_≡_, refl, sym, ap, _∙_}
 use Prim.Native.Nat.{ℕ, suc, _≤_}
 use native.Mathlib.Omega.{arith}
-use lib.IntN.{ℤ}
 use lib.ListN.{take}
 use Rattle.model.specs.Basics.{run}
 use Rattle.model.specs.Lists.{Lists}
-use Rattle.model.specs.Maybe.{maybeI32, optionI32}
 use Rattle.model.specs.Answers.{Result, answers}
 use Rattle.model.specs.Rules.{allowed}
 use Rattle.model.specs.Lookups.{activeZone, lastActiveWindow, offsetOf, activeOffset, usable, tableEmpty, nextTransition, zoneAt, windowAt}
@@ -17,8 +14,8 @@ use Rattle.model.specs.History.{SetTimeZone, SetDSTOffset, Load, FactoryReset, 
 use Rattle.model.specs.Store.{Store, new, storeAfter}
 use Rattle.model.proofs.Facts.{by-test}
 use Rattle.model.proofs.Demand3.{demand3}
+use Rattle.model.proofs.Maybe.{moment-back, offset-back}
 use Rattle.record.specs.Data.{listsOf, padded}
-use Rattle.record.proofs.AtIndex.{back}
 use Rattle.record.proofs.Again.{padded-front}
 use Rattle.rules.specs.declared.Verdict.{Verdict}
 use Rattle.rules.specs.declared.Verdict.the-variants.{Accepted, TurnedDown}
@@ -62,10 +59,6 @@ module _ (zones windows : ℕ) where
 
 -- ## The lookups and the walk
 
-offset-back : (o : Option ℤ) → optionI32 (maybeI32 o) ≡ o
-offset-back none = refl
-offset-back (some z) = refl
-
 pub demand3-stands : Demand3Stands
 demand3-stands zones windows h calls start =
     let r = limits zones windows in
@@ -84,7 +77,7 @@ demand3-stands zones windows h calls start =
       lastWindow = λ now. offset-back _ ∙ ap (λ (x : Lists). offsetOf (lastActiveWindow x now)) e;
       usable = λ now. ap (λ (x : Lists). usable x now) e;
       tableEmpty = ap tableEmpty e;
-      next = λ now. back _ ∙ ap (λ (x : Lists). nextTransition x now) e;
+      next = λ now. moment-back _ ∙ ap (λ (x : Lists). nextTransition x now) e;
       zoneListed = λ i. lists-the-zones (t .lists) i ∙ ap (λ (x : Lists). zoneAt x i) e;
       windowListed = λ i. lists-the-windows (t .lists) i ∙ ap (λ (x : Lists). windowAt x i) e;
       walked =

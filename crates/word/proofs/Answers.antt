@@ -2,18 +2,16 @@
 use mathlib.Core.Bool.{Bool, true, false, cond}
 use mathlib.Core.List.{List}
 use mathlib.Core.Option.{Option, none, some}
-use mathlib.Core.Path.{_≡_, refl, sym, ap, _∙_}
+use mathlib.Core.Path.{_≡_, refl, ap, _∙_}
 use Prim.Native.Nat.{ℕ, _+_, _≤_, _<_}
 use native.Mathlib.Omega.{arith}
 use borrow.Author.Tests.{leb-true, leb-false}
-use lib.Dec.{leb}
 use lib.IntN.{ℤ}
 use lib.ListN.{length, take, drop}
 use Rattle.model.specs.declared.MaybeU64.{MaybeU64}
 use Rattle.model.specs.declared.MaybeI32.{MaybeI32}
 use Rattle.model.specs.Bytes.{number, signed}
 use Rattle.model.specs.Maybe.{maybeU64, maybeI32}
-use Rattle.model.proofs.Facts.{by-test}
 use Rattle.word.specs.Place.{fitsAt, numberAt, signedOf, signedAt}
 
 -- the bytes are there, and spell `v`

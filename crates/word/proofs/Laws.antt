@@ -1,12 +1,12 @@
 -- Numbers at a place, read and written, over the width.
 use Prim.Native.Nat.{ℕ, zero, suc, _+_, _-_, _*_, _/_, _%_, _^_, _≤_, _<_}
-use mathlib.Core.Path.{_≡_, refl, sym, ap, subst, _∙_}
+use mathlib.Core.Path.{_≡_, sym, ap, _∙_}
 use mathlib.Core.List.{List, [], _∷_, _++_, append-assoc}
 use native.Mathlib.Nat.{pow-le-pow-right, lt-of-lt-of-le, add-zero, sub-zero, one-le-pow}
 use native.Mathlib.Numerals.{add-one}
 use native.Mathlib.Omega.{arith}
 use lib.Dec.{lit<}
-use lib.ListN.{length, take, drop, getD, set, length-append, length-take, length-drop}
+use lib.ListN.{length, take, drop, getD, set, length-append, length-drop}
 use lib.Seq.{set-split, append-snoc, drop-cons, getD-drop, drop-drop, take-length, take-at, drop-at, length-take-le, paste, paste-zero, paste-suc, length-paste}
 use Rattle.model.specs.Bytes.{number, bytes}
 use Rattle.model.proofs.Words.{length-bytes}

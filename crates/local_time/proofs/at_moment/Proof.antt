@@ -1,8 +1,8 @@
 -- `local_time::at_moment` meets its contract.
 use borrow.Author.Needs.{needs}
 use mathlib.Core.Bool.{Bool, true, false, cond}
-use mathlib.Core.Option.{Option, none, some}
-use mathlib.Core.Path.{_≡_, refl, sym, ap, _∙_}
+use mathlib.Core.Option.{none, some}
+use mathlib.Core.Path.{_≡_, refl, _∙_}
 use Prim.Native.Nat.{ℕ}
 use Rattle.model.specs.declared.Refusal.the-variants.{AttributeNotFound}
 use Rattle.model.specs.Lists.{Lists}

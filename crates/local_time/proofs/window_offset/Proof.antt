@@ -1,22 +1,16 @@
 -- `local_time::window_offset` meets its contract.
 use borrow.Author.Needs.{needs}
-use mathlib.Core.Option.{Option, none, some}
-use mathlib.Core.Path.{_≡_, refl, ap, _∙_}
-use lib.IntN.{ℤ}
+use mathlib.Core.Path.{_≡_, ap, _∙_}
 use mir.Syntax.{w32}
 use mir.Val.{toZ, ofZ}
 use Rattle.model.specs.declared.MaybeI32.{MaybeI32}
 use Rattle.model.specs.LocalTime.{orZero}
 use Rattle.model.specs.Lookups.{lastActiveWindow, offsetOf}
-use Rattle.model.specs.Maybe.{optionI32, maybeI32}
+use Rattle.model.specs.Maybe.{optionI32}
+use Rattle.model.proofs.Maybe.{offset-back}
 use Rattle.record.specs.Data.{listsOf}
 use Rattle.local_time.proofs.window_offset.Statement.{statement}
 use Rattle.local_time.proofs.window_offset.Tie as tie
-
--- an offset comes back from its enum
-offset-back : (o : Option ℤ) → optionI32 (maybeI32 o) ≡ o
-offset-back none = refl
-offset-back (some z) = refl
 
 returns : tie.Need-returns
 returns c =

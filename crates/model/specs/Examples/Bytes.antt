@@ -1,13 +1,12 @@
 -- Bytes: numbers, UTF-8 row by row, sections and records, good and damaged.
 use mathlib.Core.Bool.{true, false}
-use mathlib.Core.List.{List, [], _∷_, _++_}
-use mathlib.Core.Option.{Option, none, some}
+use mathlib.Core.List.{[], _∷_, _++_}
+use mathlib.Core.Option.{none, some}
 use mathlib.Core.Path.{_≡_, refl}
-use Prim.Native.Nat.{ℕ, _-_, _^_}
-use lib.IntN.{ℤ, pos, negℤ}
+use lib.IntN.{pos, negℤ}
 use lib.ListN.{length, replicate}
 use Rattle.model.specs.Basics.{top}
-use Rattle.model.specs.Lists.{Zone, Window, Lists, empty}
+use Rattle.model.specs.Lists.{Lists, empty}
 use Rattle.model.specs.Bytes.{bytes, number, bitsOf, signed, row, goesOn, wellFormed, takeBytes, named, readName, readUntil, readEntry, readAll, allBytes, zonesBytes, windowsBytes, recordBytes, readZones, readWindows, readRecord}
 use Rattle.model.specs.Table.{zone, window}
 use Rattle.model.specs.Examples.Cases.{Gives, _gives_}

@@ -1,14 +1,14 @@
 -- The clock at the edges: ticks around an anchor, equal settings, the day rule, loads.
 use mathlib.Core.Bool.{true, false}
-use mathlib.Core.List.{List, [], _∷_, _++_}
-use mathlib.Core.Option.{Option, none, some}
+use mathlib.Core.List.{[], _∷_}
+use mathlib.Core.Option.{none, some}
 use mathlib.Core.Path.{_≡_, refl}
-use Prim.Native.Nat.{ℕ, _-_}
+use Prim.Native.Nat.{ℕ}
 use Rattle.model.specs.declared.TimeGranularity.the-variants.{NoTime, Minutes, Seconds, Milliseconds, Microseconds}
 use Rattle.model.specs.declared.TimeSource.the-variants as S
 use Rattle.model.specs.declared.Refusal.the-variants.{BadRecord}
 use Rattle.model.specs.Basics.{top}
-use Rattle.model.specs.Answers.{Answer, refused, answers, done, TrustedSource, report, emit, storeMoment, removeMoment, storeSource, removeSource, TrustedTimeSource, MissingTrustedTimeSource}
+use Rattle.model.specs.Answers.{refused, answers, done, TrustedSource, report, emit, storeMoment, removeMoment, storeSource, removeSource, TrustedTimeSource, MissingTrustedTimeSource}
 use Rattle.model.specs.Clock.{Clock, fresh, resetPersist, load, reliable, lastKnown, reading, granularityRead, sourceRead, lowered, changes, isKept, setTo, utcReports, setUtcTime, aDayApart, withPersisted, setUtcTimePersist, withTrusted, setTrustedTimeSource, setTrustedTimeSourcePersist}
 use Rattle.model.specs.Examples.Cases.{Gives, _gives_}
 

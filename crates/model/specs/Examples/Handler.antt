@@ -1,12 +1,10 @@
 -- The handler's refusals, in their order, and what its commands ask for.
-use mathlib.Core.Bool.{true, false}
-use mathlib.Core.List.{List, [], _∷_, _++_}
+use mathlib.Core.List.{[], _∷_, _++_}
 use mathlib.Core.Option.{Option, none, some}
 use mathlib.Core.Path.{_≡_, refl}
-use Prim.Native.Nat.{ℕ}
 use lib.IntN.{pos}
 use Rattle.model.specs.declared.TimeSource.the-variants.{Admin}
-use Rattle.model.specs.declared.Refusal.the-variants.{Unreadable, ConstraintError, InvalidCommand, CommandNotFound, AttributeNotFound}
+use Rattle.model.specs.declared.Refusal.the-variants.{Unreadable, ConstraintError, InvalidCommand, AttributeNotFound}
 use Rattle.model.specs.Numbers.{granularityOf, sourceOf}
 use Rattle.model.specs.Lists.{empty}
 use Rattle.model.specs.Answers.{refused, answers, done, numberOf, report, emit, wakeTimer, wakeClient, storeSource, removeSource, TrustedTimeSource, MissingTrustedTimeSource}
@@ -14,8 +12,7 @@ use Rattle.model.specs.Rules.{device}
 use Rattle.model.specs.Lookups as L
 use Rattle.model.specs.Clock as C
 use Rattle.model.specs.Clock.{fresh, utcReports}
-use Rattle.model.specs.Store as T
-use Rattle.model.specs.Handler.{Device, Named, setUTCTime, setTrustedTimeSource, setTimeZone, setDSTOffset, loadLists, resetLists, zonesListed, zoneAt, windowsListed, windowAt, zoneLimitRead, databaseRead, generationRead}
+use Rattle.model.specs.Handler.{Device, Named, setUTCTime, setTrustedTimeSource, setTimeZone, loadLists, resetLists, zonesListed, zoneAt, windowAt, databaseRead}
 use Rattle.model.specs.Table.{zone}
 use Rattle.model.specs.Examples.Cases.{Gives, _gives_}
 

@@ -1,6 +1,6 @@
 -- The client's attempts at the edges.
 use mathlib.Core.Bool.{true, false}
-use mathlib.Core.List.{List, [], _∷_, _++_}
+use mathlib.Core.List.{[], _∷_, _++_}
 use mathlib.Core.Option.{Option, none, some}
 use mathlib.Core.Path.{_≡_, refl}
 use Prim.Native.Nat.{ℕ, _^_}
@@ -9,7 +9,7 @@ use Rattle.model.specs.declared.TimeSource.the-variants.{NodeTimeCluster
 use Rattle.model.specs.Numbers.{granularityOf}
 use Rattle.model.specs.Basics.{top}
 use Rattle.model.specs.Answers.{emit, MissingTrustedTimeSource, TimeFailure, storeMoment}
-use Rattle.model.specs.Clock.{Clock, fresh, utcReports, setUtcTime, isKept, changes, aDayApart, setUtcTimePersist}
+use Rattle.model.specs.Clock.{fresh, utcReports, setUtcTime, isKept, changes, aDayApart, setUtcTimePersist}
 use Rattle.model.specs.Retries.{Client, newClient, firstRetry, doubled, Outcome, told, failed, refresh, Applied, NoTime, NoSource, Failure, eventsOf, attemptOf, attempt, attemptNow, waitFor, waitForSource, sourceChanged}
 use Rattle.model.specs.Table.{sourced}
 use Rattle.model.specs.Examples.Cases.{Gives, _gives_}

@@ -1,10 +1,10 @@
 -- Lists at the edges of the rules.
 use mathlib.Core.Bool.{true, false}
-use mathlib.Core.List.{List, [], _∷_}
-use mathlib.Core.Option.{Option, none, some}
+use mathlib.Core.List.{[], _∷_}
+use mathlib.Core.Option.{none, some}
 use mathlib.Core.Path.{refl}
 use Prim.Native.Nat.{ℕ}
-use lib.IntN.{ℤ, pos, negℤ}
+use lib.IntN.{pos, negℤ}
 use lib.ListN.{replicate}
 use Rattle.model.specs.declared.Refusal.the-variants.{ConstraintError, ResourceExhausted}
 use Rattle.model.specs.Basics.{top}

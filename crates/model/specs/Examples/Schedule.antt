@@ -1,8 +1,8 @@
 -- The schedule program's text: a whole example, refusals by length, and the largest numbers.
-use mathlib.Core.List.{List, [], _∷_, _++_}
+use mathlib.Core.List.{[], _∷_, _++_}
 use mathlib.Core.Path.{_≡_, refl}
-use Prim.Native.Nat.{ℕ, _-_}
-use lib.IntN.{ℤ, pos, negℤ}
+use Prim.Native.Nat.{_-_}
+use lib.IntN.{pos, negℤ}
 use lib.ListN.{replicate}
 use Rattle.model.specs.Basics.{top, keep, any, first, last, leastOf, smallest}
 use Rattle.model.specs.Lists.{empty}

@@ -1,17 +1,17 @@
 -- The list store's calls: what they leave, answer and ask for; and calls with an output slice.
-use mathlib.Core.Bool.{Bool, true, false}
+use mathlib.Core.Bool.{true}
 use mathlib.Core.List.{List, [], _∷_, _++_}
-use mathlib.Core.Option.{Option, none, some}
+use mathlib.Core.Option.{none, some}
 use mathlib.Core.Path.{_≡_, refl}
 use Prim.Native.Nat.{ℕ, _-_, _^_}
-use lib.IntN.{ℤ, pos}
+use lib.IntN.{pos}
 use lib.ListN.{replicate}
-use Rattle.model.specs.declared.Refusal.the-variants.{Unreadable, ConstraintError, ResourceExhausted, BadRecord, BadLimits}
+use Rattle.model.specs.declared.Refusal.the-variants.{Unreadable, ConstraintError, BadRecord}
 use Rattle.model.specs.Basics.{run}
 use Rattle.model.specs.Lists.{Lists, empty}
-use Rattle.model.specs.Answers.{Answer, refused, answers, done, numberOf, report, wakeTimer, storeRecord, removeRecord, TimeZone, DSTOffset}
-use Rattle.model.specs.Rules.{Rules, allowed, device, demand, andThen, testFrom, zoneRule, windowRule, testZones, testWindows, Verdict, accepted, turnedDown}
-use Rattle.model.specs.Bytes.{bytes, number, bitsOf, signed, row, goesOn, allBytes, zonesBytes, windowsBytes, recordBytes, takeBytes, named, readName, readUntil, readEntry, readAll, readZones, readWindows, readRecord}
+use Rattle.model.specs.Answers.{refused, answers, done, numberOf, report, wakeTimer, storeRecord, removeRecord, TimeZone, DSTOffset}
+use Rattle.model.specs.Rules.{allowed, device, demand, andThen, testFrom, zoneRule, windowRule, testZones, testWindows, accepted, turnedDown}
+use Rattle.model.specs.Bytes.{bytes, number, bitsOf, signed, allBytes, zonesBytes, windowsBytes, recordBytes, takeBytes, readName, readUntil, readEntry, readAll, readZones, readWindows, readRecord}
 use Rattle.model.specs.History.{SetTimeZone, SetDSTOffset, Load, FactoryReset, verdict, after, listsAfter}
 use Rattle.model.specs.Store.{Store, new, recordOf, setTimeZone, setDSTOffset, load, factoryReset}
 use Rattle.model.specs.Output.{SizedCall, storedBy, noSpace, afterSized}

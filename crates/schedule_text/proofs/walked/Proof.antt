@@ -1,11 +1,10 @@
 -- `schedule_text::walked` meets its contract: the header, the lines, and the steps after them.
-use mathlib.Core.List.{List, [], _∷_, _++_, append-assoc}
-use mathlib.Core.Path.{_≡_, refl, sym, ap, _∙_}
-use Prim.Native.Nat.{ℕ, suc, _+_, _-_, _*_, _≤_}
+use mathlib.Core.List.{List, _++_, append-assoc}
+use mathlib.Core.Path.{_≡_, ap, _∙_}
+use Prim.Native.Nat.{ℕ, suc, _-_, _≤_}
 use native.Mathlib.Omega.{arith}
 use borrow.Author.Needs.{needs}
 use lib.ListN.{length, take, replicate, length-take, length-map, length-append, length-replicate}
-use Rattle.model.specs.Lists.{Lists}
 use Rattle.model.specs.Bytes.{allBytes}
 use Rattle.model.specs.Walk as W
 use Rattle.model.specs.Schedule.{header, stepsWord, newLine, decimal, line, walkText}
@@ -13,7 +12,6 @@ use Rattle.record.specs.Data.{listsOf}
 use Rattle.record.proofs.Writes.{zeros, length-zeros, all-short}
 use Rattle.record.proofs.Writes as writes
 use Rattle.lookups.specs.declared.Walk.{Walk}
-use Rattle.lookups.specs.Transitions.{walkOwned}
 use Rattle.lookups.proofs.Walked.{holds-the-walk}
 use Rattle.schedule_text.specs.Texts.{textOf}
 use Rattle.schedule_text.proofs.Digits.{decimal-length}

@@ -2,7 +2,6 @@
 use mathlib.Core.Path.{ap}
 use lib.ListN.{replicate}
 use Rattle.record.specs.declared.DSTOffsetEntry.{DSTOffsetEntry}
-use Rattle.taken.specs.declared.DSTOffsets.{DSTOffsets}
 use borrow.Author.Needs.{needs}
 use Rattle.taken.proofs.no_windows.Statement.{statement}
 use Rattle.taken.proofs.no_windows.Tie as tie

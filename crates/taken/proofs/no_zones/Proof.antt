@@ -2,7 +2,6 @@
 use mathlib.Core.Path.{ap}
 use lib.ListN.{replicate}
 use Rattle.record.specs.declared.TimeZoneOwned.{TimeZoneOwned}
-use Rattle.taken.specs.declared.TimeZones.{TimeZones}
 use borrow.Author.Needs.{needs}
 use Rattle.taken.proofs.no_zones.Statement.{statement}
 use Rattle.taken.proofs.no_zones.Tie as tie

@@ -5,10 +5,10 @@ use native.Mathlib.Omega.{arith}
 use borrow.Author.Tests.{leb-true, leb-false, le-leb, lt-leb}
 use borrow.Author.Needs.{needs}
 use lib.Dec.{leb}
-use Rattle.model.specs.Retries.{TIME_EVENTS_INTERVAL}
 use Rattle.model.proofs.Facts.{by-test}
 use Rattle.time_sync_client.proofs.is_due.Statement.{statement}
 use Rattle.time_sync_client.proofs.is_due.Tie as tie
+use Rattle.model.specs.Retries.{TIME_EVENTS_INTERVAL}
 
 -- comparing the difference is comparing the sum
 since : (mark interval tick : ℕ) → mark ≤ tick → leb interval (tick - mark) ≡ leb (mark + interval) tick

@@ -1,6 +1,6 @@
 -- `word::from_bits` meets its contract: n below 2 ^ 31, and else -1 - (2 ^ 32 - 1 - n).
-use mathlib.Core.Path.{_≡_, sym, ap, subst, _∙_}
-use Prim.Native.Nat.{ℕ, suc, _-_, _≤_, _<_, _^_}
+use mathlib.Core.Path.{_≡_, ap, _∙_}
+use Prim.Native.Nat.{ℕ, _-_, _≤_, _^_}
 use native.Mathlib.Omega.{arith}
 use lib.IntN.{ℤ, pos, negsuc, _-ℤ_}
 use borrow.Author.Tests.{le-ltb}
@@ -12,7 +12,6 @@ use Rattle.word.proofs.Integers.{minus-one, sfits-minus-one}
 use borrow.Author.Needs.{needs}
 use Rattle.word.proofs.from_bits.Statement.{statement}
 use Rattle.word.proofs.from_bits.Tie as tie
-use Rattle.word.proofs.from_bits.Reads as rds
 
 module _ (n : ℕ) (h : 2 ^ 31 ≤ n) (f : Fits w32 n) where
   fits : SFits w32 (negsuc 0 -ℤ toZ w32 (4294967295 - n))

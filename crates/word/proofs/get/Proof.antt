@@ -1,11 +1,10 @@
 -- `word::get` meets its contract. Going from the last byte to the first, v is what the bytes from i on spell.
 --
-use Prim.Native.Nat.{ℕ, suc, _+_, _-_, _*_, _^_, _≤_, _<_}
-use mathlib.Core.Path.{_≡_, refl, sym, ap, subst, _∙_}
+use Prim.Native.Nat.{ℕ, _+_, _-_, _*_, _^_, _≤_, _<_}
+use mathlib.Core.Path.{_≡_, sym, ap, subst, _∙_}
 use native.Mathlib.Nat.{sub-self, sub-zero, add-zero}
 use native.Mathlib.Omega.{arith}
 use borrow.Author.Needs.{needs}
-use lib.Dec.{lit<}
 use lib.ListN.{take, drop}
 use Rattle.model.specs.Bytes.{number}
 use Rattle.word.proofs.Laws.{turn-get, at-most}

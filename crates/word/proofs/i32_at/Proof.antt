@@ -7,9 +7,7 @@ use lib.IntN.{ℤ}
 use mir.Syntax.{w32}
 use mir.Val.{toZ, ofZ}
 use Rattle.model.specs.declared.MaybeI32.{MaybeI32}
-use Rattle.model.specs.Bytes.{signed}
 use Rattle.model.specs.Maybe.{maybeI32}
-use Rattle.word.specs.declared.MaybeU32.{MaybeU32}
 use Rattle.word.specs.declared.MaybeU32.the-variants as U
 use Rattle.word.specs.Place.{numberAt, signedOf, maybeU32}
 use Rattle.word.proofs.i32_at.Statement.{statement}

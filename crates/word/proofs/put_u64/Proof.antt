@@ -1,5 +1,5 @@
 -- `word::put_u64` meets its contract.
-use mathlib.Core.Path.{_≡_, sym, _∙_}
+use mathlib.Core.Path.{sym, _∙_}
 use borrow.Author.Needs.{needs}
 use Rattle.word.proofs.Places.{fitting, placed-is, placed-none}
 use Rattle.word.proofs.put_u64.Statement.{statement}

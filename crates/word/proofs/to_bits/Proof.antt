@@ -8,7 +8,6 @@ use mir.Facts.{toZ-ofZ}
 use Rattle.word.proofs.Integers.{casts, comp-fits, comp-casts, comp-is, tested, bits-pos, bits-neg}
 use Rattle.word.proofs.to_bits.Statement.{statement}
 use Rattle.word.proofs.to_bits.Tie as tie
-use Rattle.word.proofs.to_bits.Reads as rds
 
 cast-result : tie.Need-cast-result
 cast-result c = casts w32 _ (c .before .fits .z) (c .if1 .taken)

@@ -9,8 +9,6 @@ use Rattle.model.specs.Bytes.{bytes}
 use Rattle.model.specs.Clock.{Clock, fresh}
 use Rattle.model.specs.Retries.{Client, newClient}
 use Rattle.model.proofs.Words.{length-bytes}
-use Rattle.rtc.proofs.Rtc.new.Reads as Rtc-new-reads
-use Rattle.time_sync_client.proofs.TimeSyncClient.new.Reads as TimeSyncClient-new-reads
 use Rattle.word.specs.Place.{put}
 use Rattle.image.specs.Parts.{bit, limitOf, clockBytes, timerBytes, clientBytes, newBytes}
 use Rattle.image.proofs.Written.{wrote-six, length-timer, length-clock, length-client}

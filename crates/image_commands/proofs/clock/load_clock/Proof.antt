@@ -1,13 +1,9 @@
 -- `clock::load_clock` meets its contract.
-use mathlib.Core.Path.{_≡_, refl, sym, ap, _∙_}
-use mathlib.Core.Bool.{Bool, true, false}
+use mathlib.Core.Path.{sym, ap, _∙_}
 use Prim.Native.Nat.{ℕ}
-use Rattle.model.specs.Answers.{Result}
 use Rattle.model.specs.Handler as H
-use Rattle.model.specs.Handler.{Device}
-use Rattle.image.specs.Layout.{isImage}
 use Rattle.image.specs.Parts.{deviceIn}
-use Rattle.model.specs.declared.Refusal.the-variants.{Unreadable, BadLimits}
+use Rattle.model.specs.declared.Refusal.the-variants.{BadLimits}
 use Rattle.model.specs.Maybe.{optionU64}
 use Rattle.rtc.specs.Meaning.{optionSource}
 use mathlib.Core.Option.{Option}

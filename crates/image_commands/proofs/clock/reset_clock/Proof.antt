@@ -1,11 +1,7 @@
 -- `clock::reset_clock` meets its contract.
-use mathlib.Core.Path.{_≡_, refl, sym, ap, _∙_}
-use mathlib.Core.Bool.{Bool, true, false}
-use Prim.Native.Nat.{ℕ}
+use mathlib.Core.Path.{refl, sym, ap, _∙_}
 use Rattle.model.specs.Answers.{Result}
 use Rattle.model.specs.Handler as H
-use Rattle.model.specs.Handler.{Device}
-use Rattle.image.specs.Layout.{isImage}
 use Rattle.image.specs.Parts.{deviceIn}
 use Rattle.model.specs.declared.Refusal.the-variants.{BadLimits}
 use Rattle.model.specs.Bytes.{number}

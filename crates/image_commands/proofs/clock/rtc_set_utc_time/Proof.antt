@@ -1,17 +1,9 @@
 -- `clock::rtc_set_utc_time` meets its contract.
-use mathlib.Core.Path.{_≡_, refl, sym, ap, _∙_}
-use mathlib.Core.Bool.{Bool, true, false}
-use Prim.Native.Nat.{ℕ}
-use Rattle.model.specs.Answers.{Result}
-use Rattle.model.specs.Handler as H
-use Rattle.model.specs.Handler.{Device}
-use Rattle.image.specs.Layout.{isImage}
+use mathlib.Core.Path.{sym, ap, _∙_}
 use Rattle.image.specs.Parts.{deviceIn}
 use Rattle.model.specs.declared.Refusal.the-variants.{Unreadable, BadLimits}
-use mathlib.Core.Option.{none, some}
 use Rattle.model.specs.Numbers.{granularityRead, granularityOf, sourceRead, sourceOf}
 use Rattle.model.specs.Clock as C
-use Rattle.model.specs.Clock.{Persisted}
 use Rattle.image.specs.Asked.{truth}
 use Rattle.image_commands.specs.Calls.{setBy, rtcSet}
 use Rattle.image_commands.proofs.Says.{no, yes, Tells, refusal-tells, on-image, off-image, no-granularity, no-source, both-read}

@@ -1,14 +1,7 @@
 -- `clock::rtc_set_utc_time_persist` meets its contract.
-use mathlib.Core.Path.{_≡_, refl, sym, ap, _∙_}
-use mathlib.Core.Bool.{Bool, true, false}
-use Prim.Native.Nat.{ℕ}
-use Rattle.model.specs.Answers.{Result}
-use Rattle.model.specs.Handler as H
-use Rattle.model.specs.Handler.{Device}
-use Rattle.image.specs.Layout.{isImage}
+use mathlib.Core.Path.{sym, ap, _∙_}
 use Rattle.image.specs.Parts.{deviceIn}
 use Rattle.model.specs.declared.Refusal.the-variants.{Unreadable, BadLimits}
-use mathlib.Core.Option.{none, some}
 use Rattle.model.specs.Numbers.{granularityRead, granularityOf, sourceRead, sourceOf}
 use Rattle.model.specs.Clock as C
 use Rattle.model.specs.Clock.{Persisted}

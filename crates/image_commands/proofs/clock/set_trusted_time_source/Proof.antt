@@ -1,11 +1,6 @@
 -- `clock::set_trusted_time_source` meets its contract.
-use mathlib.Core.Path.{_≡_, refl, sym, ap, subst, _∙_}
-use mathlib.Core.Bool.{Bool, true, false}
-use Prim.Native.Nat.{ℕ}
-use Rattle.model.specs.Answers.{Result}
+use mathlib.Core.Path.{sym, ap, subst, _∙_}
 use Rattle.model.specs.Handler as H
-use Rattle.model.specs.Handler.{Device}
-use Rattle.image.specs.Layout.{isImage}
 use Rattle.image.specs.Parts.{deviceIn}
 use Rattle.model.specs.declared.Refusal.the-variants.{InvalidCommand, BadLimits}
 use mathlib.Core.Option.{Option}

@@ -1,15 +1,9 @@
 -- `clock::set_utc_time` meets its contract.
-use mathlib.Core.Path.{_≡_, refl, sym, ap, _∙_}
-use mathlib.Core.Bool.{Bool, true, false}
-use Prim.Native.Nat.{ℕ}
-use Rattle.model.specs.Answers.{Result}
+use mathlib.Core.Path.{sym, ap, _∙_}
 use Rattle.model.specs.Handler as H
-use Rattle.model.specs.Handler.{Device}
-use Rattle.image.specs.Layout.{isImage}
 use Rattle.image.specs.Parts.{deviceIn}
 use Rattle.model.specs.declared.Refusal.the-variants.{Unreadable, BadLimits}
-use mathlib.Core.Option.{none, some}
-use Rattle.model.specs.Numbers.{granularityRead, granularityOf}
+use Rattle.model.specs.Numbers.{granularityRead}
 use Rattle.image.specs.Asked.{given}
 use Rattle.image_commands.specs.Calls.{setUTCTime}
 use Rattle.image_commands.proofs.Says.{no, yes, Says, refusal-says, on-image, off-image, source-unread, granularity-unread, utc-read}

@@ -1,13 +1,9 @@
 -- `clock::utc_time_taken` meets its contract.
-use mathlib.Core.Path.{_≡_, refl, sym, ap, _∙_}
-use mathlib.Core.Bool.{Bool, true, false}
-use Prim.Native.Nat.{ℕ}
+use mathlib.Core.Path.{sym, ap, _∙_}
+use mathlib.Core.Bool.{Bool}
 use Rattle.model.specs.Answers.{Result}
-use Rattle.model.specs.Handler as H
-use Rattle.model.specs.Handler.{Device}
-use Rattle.image.specs.Layout.{isImage}
 use Rattle.image.specs.Parts.{deviceIn}
-use mathlib.Core.List.{[], _∷_, _++_}
+use mathlib.Core.List.{_++_}
 use Rattle.model.specs.Basics.{isSome, when}
 use Rattle.model.specs.Codes.{returned}
 use Rattle.model.specs.Clock as C

@@ -1,5 +1,4 @@
 -- `codes::refusal` meets its contract.
-use mathlib.Core.Path.{_∙_}
 use Rattle.image_commands.proofs.Says.{refusal-alone}
 use borrow.Author.Needs.{needs}
 use Rattle.image_commands.proofs.codes.refusal.Statement.{statement}

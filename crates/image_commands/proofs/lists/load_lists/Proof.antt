@@ -1,25 +1,18 @@
 -- `lists::load_lists` meets its contract.
-use mathlib.Core.Path.{_≡_, refl, sym, ap, subst, _∙_}
-use mathlib.Core.Bool.{Bool, true, false}
-use mathlib.Core.List.{List, [], _∷_}
-use mathlib.Core.Option.{Option, none, some}
-use Prim.Native.Nat.{ℕ}
+use mathlib.Core.Path.{_≡_, sym, ap, _∙_}
+use mathlib.Core.Bool.{Bool}
+use mathlib.Core.Option.{none, some}
 use Rattle.model.specs.declared.Refusal.the-variants.{BadLimits}
-use Rattle.model.specs.Answers.{Result, unchanged}
-use Rattle.model.specs.Bytes.{number}
-use Rattle.model.specs.Codes.{returned}
 use Rattle.model.specs.Store as M
 use Rattle.model.specs.Store.{Store}
 use Rattle.model.specs.Handler as H
-use Rattle.model.specs.Handler.{Device, ofStore}
-use Rattle.image.specs.Layout.{isImage, markAt}
-use Rattle.image.specs.Parts.{deviceIn, storeIn}
+use Rattle.image.specs.Parts.{deviceIn}
 use mathlib.Core.Bool.{cond}
 use borrow.Author.Tests.{eq-eqb, ne-eqb}
 use Rattle.image.specs.Asked.{given}
-use Rattle.image_commands.specs.Calls.{returnedBy, loadLeft, loadLists}
+use Rattle.image_commands.specs.Calls.{loadLists}
 use Rattle.image_commands.proofs.Says.{no, yes, refusal-alone, on-image, off-image}
-use Rattle.image_commands.proofs.Told.{LoadSays, load-mean, lifecycle-there, lifecycle-missing, lists-stay, refused-stays, none-loaded, load-there, load-refused, load-taken}
+use Rattle.image_commands.proofs.Told.{LoadSays, load-mean, lifecycle-missing, lists-stay, refused-stays, none-loaded, load-there, load-refused, load-taken}
 use borrow.Author.Needs.{needs}
 use Rattle.image_commands.proofs.lists.load_lists.Statement.{statement}
 use Rattle.image_commands.proofs.lists.load_lists.Tie as tie

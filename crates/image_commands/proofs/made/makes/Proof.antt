@@ -1,5 +1,4 @@
 -- `made::makes` meets its contract.
-use borrow.Author.Tests.{le-leb, lt-leb}
 use borrow.Author.Needs.{needs}
 use Rattle.image_commands.proofs.made.makes.Statement.{statement}
 use Rattle.image_commands.proofs.made.makes.Tie as tie

@@ -1,5 +1,5 @@
 -- `made::new` meets its contract.
-use mathlib.Core.Path.{_≡_, refl, sym, ap, _∙_}
+use mathlib.Core.Path.{_≡_, sym, _∙_}
 use mathlib.Core.Bool.{true, false, not}
 use lib.Dec.{eqb}
 use Rattle.image_commands.specs.Calls.{makes, newAnswer, newLeft}

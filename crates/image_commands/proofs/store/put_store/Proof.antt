@@ -1,9 +1,8 @@
 -- `store::put_store` meets its contract.
-use mathlib.Core.Path.{_≡_, refl, sym, ap, subst, _∙_}
+use mathlib.Core.Path.{ap, _∙_}
 use mathlib.Core.List.{List}
 use Prim.Native.Nat.{ℕ}
-use Rattle.record.specs.Data.{windowsOf, listsOf}
-use Rattle.image.specs.Layout.{withLists, withWindows, withGeneration}
+use Rattle.image.specs.Layout.{withGeneration}
 use borrow.Author.Needs.{needs}
 use Rattle.image_commands.proofs.store.put_store.Statement.{statement}
 use Rattle.image_commands.proofs.store.put_store.Tie as tie

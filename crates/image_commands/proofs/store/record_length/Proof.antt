@@ -1,6 +1,6 @@
 -- `store::record_length` meets its contract.
-use mathlib.Core.Path.{_≡_, refl, sym, ap, _∙_}
-use Prim.Native.Nat.{ℕ, min}
+use mathlib.Core.Path.{_≡_, sym, ap, _∙_}
+use Prim.Native.Nat.{min}
 use lib.ListN.{length, length-map, length-take}
 use borrow.Author.Needs.{needs}
 use Rattle.image_commands.proofs.store.record_length.Statement.{statement}

@@ -7,7 +7,7 @@ use borrow.Author.Needs.{needs}
 use Rattle.model.specs.declared.MaybeU64.{MaybeU64}
 use Rattle.model.specs.Lookups.{nextTransition}
 use Rattle.model.specs.Maybe.{optionU64, maybeU64}
-use Rattle.record.proofs.AtIndex.{back}
+use Rattle.model.proofs.Maybe.{moment-back}
 use Rattle.lookups.proofs.Walked.{few-boundaries, Sofar, sofar-start, sofar-more, sofar-end, sofar-full}
 use Rattle.image.specs.Layout.{listsIn}
 use Rattle.image_lookups.proofs.Views.{few-zones, few-windows}
@@ -22,7 +22,7 @@ abbrev μ-loop : tie.MeasureT-loop
 
 -- the moment that an answer stands for
 said : (o : Option ℕ) (r m : MaybeU64) → r ≡ maybeU64 o → r ≡ m → o ≡ optionU64 m
-said o r m e q = sym (back o) ∙ ap optionU64 (sym e ∙ q)
+said o r m e q = sym (moment-back o) ∙ ap optionU64 (sym e ∙ q)
 
 loop-holds : tie.Need-loop-holds Inv-loop μ-loop
 loop-holds c =

@@ -10,8 +10,8 @@ use Rattle.model.specs.Lookups as L
 use Rattle.model.specs.LocalTime as M
 use Rattle.model.specs.Lists.{Lists}
 use Rattle.model.specs.Maybe.{optionI32}
+use Rattle.model.proofs.Maybe.{offset-back}
 use Rattle.image.specs.Layout.{listsIn}
-use Rattle.image_readings.proofs.Answered.{offset-back}
 use Rattle.image_readings.proofs.clock.shown_at.Statement.{statement}
 use Rattle.image_readings.proofs.clock.shown_at.Tie as tie
 

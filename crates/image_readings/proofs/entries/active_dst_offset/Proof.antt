@@ -8,12 +8,13 @@ use Rattle.model.specs.Lookups as L
 use Rattle.model.specs.Handler as H
 use Rattle.model.specs.Store.{Store}
 use Rattle.model.specs.Answers.{Answer, answers}
-use Rattle.image_readings.proofs.Answered.{store-refused, store-read, refused-number, refused-leaves, answered-number, answered-leaves, offset-back}
+use Rattle.image_readings.proofs.Answered.{store-refused, store-read, refused-number, refused-leaves, answered-number, answered-leaves}
 use Rattle.image.specs.Asked.{markOf, orZeroℤ}
 use lib.IntN.{ℤ}
 use mir.Syntax.{w32}
 use mir.Val.{toZ, ofZ}
 use Rattle.model.specs.Maybe.{optionI32}
+use Rattle.model.proofs.Maybe.{offset-back}
 use Rattle.image_readings.proofs.entries.active_dst_offset.Statement.{statement}
 use Rattle.image_readings.proofs.entries.active_dst_offset.Tie as tie
 

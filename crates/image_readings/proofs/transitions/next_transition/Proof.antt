@@ -12,7 +12,7 @@ use Rattle.image_readings.proofs.Answered.{store-refused, store-read, r
 use Rattle.image.specs.Asked.{markOf}
 use Rattle.image.specs.Parts.{orZero}
 use Rattle.model.specs.Maybe.{optionU64}
-use Rattle.record.proofs.AtIndex.{back}
+use Rattle.model.proofs.Maybe.{moment-back}
 use Rattle.image_readings.proofs.transitions.next_transition.Statement.{statement}
 use Rattle.image_readings.proofs.transitions.next_transition.Tie as tie
 
@@ -31,7 +31,7 @@ returns-2 c =
     let a = c .before .before .before .before .before .before .args in
     let s = a .image .now in
     let e = store-read s (read (a .utc)) (c .before .before .before .before .lists-refusal .result) (c .before .before .before .before .lists-refusal .ensures) (c .before .before .before .if1 .left) in
-    let q = ap optionU64 (c .before .before .next-transition .ensures) ∙ back (L.nextTransition (listsIn s) (a .utc)) in
+    let q = ap optionU64 (c .before .before .next-transition .ensures) ∙ moment-back (L.nextTransition (listsIn s) (a .utc)) in
     (answered-number e, answered-leaves e markOf _ _ (c .before .mark .ensures ∙ ap markOf q), answered-leaves e orZero _ _ (c .or-zero .ensures ∙ ap orZero q))
 
 pub next-transition-spec : {M : Type 1} → statement M

@@ -1,5 +1,5 @@
 -- `image_steps::client::source_changed` meets its contract.
-use mathlib.Core.Path.{_≡_, refl, sym, _∙_}
+use mathlib.Core.Path.{refl, sym, _∙_}
 use borrow.Author.Tests.{not-true, not-false}
 use Rattle.image_steps.proofs.Codes.{refused-is}
 use Rattle.image_steps.proofs.Steps.{changed-not, changed-is}

@@ -1,13 +1,13 @@
 -- `image_steps::replay::replay` meets its contract.
 use mathlib.Core.List.{List}
-use mathlib.Core.Path.{_≡_, refl, sym, ap, _∙_}
-use Prim.Native.Nat.{ℕ, suc, _*_, _≤_}
+use mathlib.Core.Path.{_≡_, refl, ap, _∙_}
+use Prim.Native.Nat.{ℕ, suc, _*_}
 use native.Mathlib.Omega.{arith}
 use borrow.Author.Needs.{needs}
 use lib.ListN.{length, take}
 use Rattle.model.specs.Output.{copiedOver, momentsBytes}
 use Rattle.record.specs.Data.{listsOf}
-use Rattle.image_steps.specs.Replays.{momentsOf, recordOf}
+use Rattle.image_steps.specs.Replays.{momentsOf}
 use Rattle.image_steps.proofs.Replays.{turned-down, no-moments, no-record, taken, length-moments, record-length, record-within, record-bytes, first-moments}
 use Rattle.image_steps.proofs.replay.replay.Statement.{statement}
 use Rattle.image_steps.proofs.replay.replay.Tie as tie

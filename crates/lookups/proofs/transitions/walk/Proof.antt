@@ -8,8 +8,8 @@ use lib.ListN.{length, length-map}
 use Rattle.model.specs.declared.MaybeU64.{MaybeU64}
 use Rattle.model.specs.Lookups.{nextTransition}
 use Rattle.model.specs.Maybe.{optionU64, maybeU64}
+use Rattle.model.proofs.Maybe.{moment-back}
 use Rattle.record.specs.Data.{zoneOf, windowOf, listsOf}
-use Rattle.record.proofs.AtIndex.{back}
 use Rattle.record.proofs.Writes.{length-listed}
 use Rattle.lookups.proofs.Walked.{few-boundaries, Sofar, sofar-start, sofar-more, sofar-end, sofar-full}
 use Rattle.lookups.proofs.transitions.walk.Statement.{statement}
@@ -30,7 +30,7 @@ sixteen c = simp length-map at (c .good .0 .1 .1 .1 .1 .0 .1 .0 .1)
 
 -- the moment that an answer stands for
 said : (o : Option ℕ) (r m : MaybeU64) → r ≡ maybeU64 o → r ≡ m → o ≡ optionU64 m
-said o r m e q = sym (back o) ∙ ap optionU64 (sym e ∙ q)
+said o r m e q = sym (moment-back o) ∙ ap optionU64 (sym e ∙ q)
 
 loop-holds : tie.Need-loop-holds Inv-loop μ-loop
 loop-holds c =

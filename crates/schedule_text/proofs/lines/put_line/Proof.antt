@@ -2,7 +2,7 @@
 use mathlib.Core.Bool.{Bool}
 use mathlib.Core.List.{List, [], _∷_, _++_, append-assoc}
 use mathlib.Core.Option.{Option}
-use mathlib.Core.Path.{_≡_, refl, sym, ap, _∙_}
+use mathlib.Core.Path.{_≡_, ap, _∙_}
 use Prim.Native.Nat.{ℕ, _+_, _<_}
 use native.Mathlib.Omega.{arith}
 use borrow.Author.Needs.{needs}
@@ -13,11 +13,12 @@ use mir.Val.{toZ, ofZ}
 use Rattle.model.specs.Lists.{Lists}
 use Rattle.model.specs.Lookups.{activeZone, activeOffset, usable}
 use Rattle.model.specs.Maybe.{optionI32}
+use Rattle.model.proofs.Maybe.{offset-back}
 use Rattle.record.specs.Data.{listsOf}
 use Rattle.model.specs.Schedule.{decimal, signedDecimal, offsetOrDash, yesOrNo, line}
 use Rattle.record.proofs.Writes as writes
 use Rattle.schedule_text.proofs.Digits.{decimal-length}
-use Rattle.schedule_text.proofs.Words.{put-as, offset-back, Columns, no-column, word, byte, signed-length, offset-length, yes-length}
+use Rattle.schedule_text.proofs.Words.{put-as, Columns, no-column, word, byte, signed-length, offset-length, yes-length}
 use Rattle.schedule_text.proofs.lines.put_line.Statement.{statement}
 use Rattle.schedule_text.proofs.lines.put_line.Tie as tie
 

@@ -1,7 +1,7 @@
 -- `schedule_text::lines::put_lines` meets its contract: the lines of the first `i` moments are written.
 use mathlib.Core.List.{List}
-use mathlib.Core.Path.{_≡_, refl, sym, ap, _∙_}
-use Prim.Native.Nat.{ℕ, suc, _+_, _-_, _≤_, _<_, min}
+use mathlib.Core.Path.{_≡_, ap}
+use Prim.Native.Nat.{ℕ, suc, _+_, _-_, _≤_, min}
 use native.Mathlib.Omega.{arith}
 use borrow.Author.Needs.{needs}
 use lib.ListN.{length, take, getD, length-map, length-take}
@@ -10,7 +10,7 @@ use Rattle.model.specs.Bytes.{allBytes}
 use Rattle.model.specs.Schedule.{line}
 use Rattle.record.specs.Data.{listsOf}
 use Rattle.lookups.specs.declared.Walk.{Walk}
-use Rattle.record.proofs.Writes.{Sofar, sofar-start, sofar-more, wrote-as}
+use Rattle.record.proofs.Writes.{Sofar, sofar-start, sofar-more}
 use Rattle.record.proofs.Writes as writes
 use Rattle.schedule_text.proofs.Words.{put-as, line-length}
 use Rattle.schedule_text.proofs.lines.put_lines.Statement.{statement}

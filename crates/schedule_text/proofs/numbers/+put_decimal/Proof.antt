@@ -1,9 +1,8 @@
 -- `schedule_text::numbers::put_decimal` meets its contract: the front digits are those of a tenth of the number, so it ends.
-use mathlib.Core.List.{List, [], _∷_, _++_}
-use mathlib.Core.Path.{_≡_, refl, sym, ap, subst, _∙_}
+use mathlib.Core.List.{List}
+use mathlib.Core.Path.{_≡_, refl, sym, ap, _∙_}
 use Prim.Native.Nat.{ℕ, _+_, _/_, _%_, _<_, _≤_}
 use native.Mathlib.Omega.{arith}
-use borrow.Author.Needs.{needs}
 use lib.ListN.{length, set, length-append}
 use Rattle.word.specs.Place.{put}
 use Rattle.model.specs.Schedule.{decimal}

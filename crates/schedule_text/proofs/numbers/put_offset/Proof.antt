@@ -1,5 +1,5 @@
 -- `schedule_text::numbers::put_offset` meets its contract.
-use mathlib.Core.Path.{_≡_, refl, sym, ap, _∙_}
+use mathlib.Core.Path.{_≡_, sym, ap, _∙_}
 use borrow.Author.Needs.{needs}
 use mir.Syntax.{w32}
 use mir.Val.{toZ, ofZ}

@@ -1,15 +1,13 @@
 -- `schedule_text::numbers::put_signed` meets its contract: a negative number has its sign before its digits.
-use mathlib.Core.List.{List, [], _∷_}
-use mathlib.Core.Path.{_≡_, refl, sym, ap, _∙_}
+use mathlib.Core.List.{List, _∷_}
+use mathlib.Core.Path.{_≡_, refl, ap, _∙_}
 use Prim.Native.Nat.{ℕ, _+_, _≤_}
 use native.Mathlib.Omega.{arith}
 use borrow.Author.Needs.{needs}
-use lib.IntN.{ℤ}
 use lib.ListN.{length, set, length-set}
 use mir.Syntax.{w32}
 use mir.Facts.{toZ-ofZ}
 use Rattle.model.specs.Schedule.{decimal}
-use Rattle.word.specs.Place.{put}
 use Rattle.word.proofs.Integers.{tested}
 use Rattle.record.proofs.Writes.{Wrote, wrote-none, wrote-byte, wrote-put}
 use Rattle.record.proofs.Writes as writes
@@ -18,6 +16,7 @@ use Rattle.schedule_text.proofs.Digits.{decimal-length}
 use Rattle.schedule_text.proofs.Words.{Put, put-as, signed-up, signed-down}
 use Rattle.schedule_text.proofs.numbers.put_signed.Statement.{statement}
 use Rattle.schedule_text.proofs.numbers.put_signed.Tie as tie
+use Rattle.word.specs.Place.{put}
 
 -- the sign, and the digits after it
 module _ (s : List ℕ) (at n : ℕ) (out : List ℕ) (next : ℕ) (room : at + 21 ≤ length s) (p : Put (set s at 45) (at + 1) (decimal n) out next) where

@@ -1,5 +1,5 @@
 -- `schedule_text::numbers::put_yes_or_no` meets its contract.
-use mathlib.Core.Path.{_≡_, refl, sym, ap, _∙_}
+use mathlib.Core.Path.{sym, ap}
 use borrow.Author.Needs.{needs}
 use Rattle.model.specs.Schedule.{yesOrNo}
 use Rattle.schedule_text.proofs.Words.{put-as}

@@ -1,9 +1,8 @@
 -- `TimeZoneStore::changed` meets its contract.
-use mathlib.Core.Path.{_≡_, refl, sym, ap, _∙_}
+use mathlib.Core.Path.{ap, _∙_}
 use Rattle.record.specs.declared.Record.{Record}
 use Rattle.rules.specs.declared.Verdict.the-variants.{Accepted}
 use Rattle.time_zone_store.specs.declared.TimeZoneStore.{TimeZoneStore}
-use Rattle.time_zone_store.specs.declared.StoreChange.{StoreChange}
 use Rattle.time_zone_store.specs.Stores.{counted}
 use borrow.Author.Needs.{needs}
 use Rattle.time_zone_store.proofs.TimeZoneStore.changed.Statement.{statement}

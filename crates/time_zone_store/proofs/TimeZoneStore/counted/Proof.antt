@@ -1,7 +1,6 @@
 -- `TimeZoneStore::counted` meets its contract.
-use mathlib.Core.Path.{_≡_, refl, sym, ap, _∙_}
+use mathlib.Core.Path.{ap}
 use Prim.Native.Nat.{ℕ}
-use Rattle.time_zone_store.specs.declared.TimeZoneStore.{TimeZoneStore}
 use borrow.Author.Needs.{needs}
 use Rattle.time_zone_store.proofs.TimeZoneStore.counted.Statement.{statement}
 use Rattle.time_zone_store.proofs.TimeZoneStore.counted.Tie as tie

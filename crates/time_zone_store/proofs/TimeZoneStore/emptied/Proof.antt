@@ -1,11 +1,8 @@
 -- `TimeZoneStore::emptied` meets its contract.
-use mathlib.Core.Path.{_≡_, refl, sym, ap, _∙_}
+use mathlib.Core.Path.{ap, _∙_}
 use Rattle.record.specs.declared.Record.{Record}
-use Rattle.record.specs.declared.TimeZoneStoreData.{TimeZoneStoreData}
 use Rattle.rules.specs.declared.Verdict.the-variants.{TurnedDown}
-use Rattle.taken.specs.declared.DSTOffsets.{DSTOffsets}
 use Rattle.time_zone_store.specs.declared.TimeZoneStore.{TimeZoneStore}
-use Rattle.time_zone_store.specs.declared.StoreChange.{StoreChange}
 use Rattle.time_zone_store.specs.Stores.{counted, withTable}
 use borrow.Author.Needs.{needs}
 use Rattle.time_zone_store.proofs.TimeZoneStore.emptied.Statement.{statement}

@@ -1,5 +1,5 @@
 -- `TimeZoneStore::factory_reset` meets its contract.
-use mathlib.Core.Path.{_≡_, refl, sym, ap, _∙_}
+use mathlib.Core.Path.{ap, _∙_}
 use Rattle.time_zone_store.specs.Stores.{counted}
 use borrow.Author.Needs.{needs}
 use Rattle.time_zone_store.proofs.TimeZoneStore.factory_reset.Statement.{statement}

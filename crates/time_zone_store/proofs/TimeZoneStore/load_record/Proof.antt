@@ -1,7 +1,7 @@
 -- `TimeZoneStore::load_record` meets its contract.
 use Prim.Native.Nat.{ℕ, min}
 use Rattle.rules.specs.Verdicts.{recordTested}
-use mathlib.Core.Path.{_≡_, refl, sym, ap, _∙_}
+use mathlib.Core.Path.{sym, ap, _∙_}
 use Rattle.time_zone_store.specs.Stores.{kept}
 use Rattle.time_zone_store.proofs.Calls.{load-refused, load-accepted}
 use borrow.Author.Needs.{needs}

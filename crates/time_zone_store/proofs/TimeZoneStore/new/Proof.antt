@@ -1,12 +1,11 @@
 -- `TimeZoneStore::new` meets its contract.
 use Prim.Native.Nat.{ℕ}
 use Rattle.model.specs.declared.Refusal.the-variants.{BadLimits}
-use Rattle.model.specs.Rules.{Rules, allowed}
+use Rattle.model.specs.Rules.{allowed}
 use Rattle.rules.specs.declared.Verdict.the-variants.{Accepted, TurnedDown}
 use Rattle.time_zone_store.specs.declared.TimeZoneStore.{TimeZoneStore}
-use Rattle.time_zone_store.specs.declared.StoreAnswer.{StoreAnswer}
-use mathlib.Core.Path.{_≡_, refl, sym, ap, _∙_}
-use mathlib.Core.Bool.{Bool, true, false}
+use mathlib.Core.Path.{_≡_, sym, ap, _∙_}
+use mathlib.Core.Bool.{true, false}
 use Rattle.time_zone_store.specs.Stores.{newStore, made}
 use borrow.Author.Needs.{needs}
 use Rattle.time_zone_store.proofs.TimeZoneStore.new.Statement.{statement}

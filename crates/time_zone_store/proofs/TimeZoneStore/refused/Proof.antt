@@ -1,8 +1,7 @@
 -- `TimeZoneStore::refused` meets its contract.
-use mathlib.Core.Path.{_≡_, refl, sym, ap, _∙_}
+use mathlib.Core.Path.{ap}
 use Rattle.record.specs.declared.Record.{Record}
 use Rattle.rules.specs.declared.Verdict.the-variants.{TurnedDown}
-use Rattle.time_zone_store.specs.declared.StoreChange.{StoreChange}
 use borrow.Author.Needs.{needs}
 use Rattle.time_zone_store.proofs.TimeZoneStore.refused.Statement.{statement}
 use Rattle.time_zone_store.proofs.TimeZoneStore.refused.Tie as tie

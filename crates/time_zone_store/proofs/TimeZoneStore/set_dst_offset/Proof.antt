@@ -1,8 +1,7 @@
 -- `TimeZoneStore::set_dst_offset` meets its contract.
 use Prim.Native.Nat.{ℕ}
-use Rattle.model.specs.Bytes.{readWindows}
 use Rattle.rules.specs.Verdicts.{windowsTested}
-use mathlib.Core.Path.{_≡_, refl, sym, ap, _∙_}
+use mathlib.Core.Path.{sym, ap, _∙_}
 use Rattle.time_zone_store.specs.Stores.{changed, withTable}
 use Rattle.time_zone_store.proofs.Calls.{dst-offset-refused, dst-offset-accepted}
 use borrow.Author.Needs.{needs}

@@ -4,7 +4,7 @@ use Rattle.model.specs.Bytes.{readZones}
 use Rattle.rules.specs.Verdicts.{zonesTested}
 use Rattle.taken.specs.declared.TimeZones.{TimeZones}
 use Rattle.taken.specs.ByValue.{bothOf, zonesTaken}
-use mathlib.Core.Path.{_≡_, refl, sym, ap, _∙_}
+use mathlib.Core.Path.{sym, ap, _∙_}
 use Rattle.time_zone_store.specs.Stores.{changed}
 use Rattle.time_zone_store.proofs.Calls.{time-zone-refused, time-zone-accepted}
 use borrow.Author.Needs.{needs}

@@ -2,7 +2,6 @@
 use mathlib.Core.Path.{ap}
 use Rattle.rules.specs.declared.Verdict.the-variants.{TurnedDown}
 use Rattle.lookups.specs.declared.Walk.{Walk}
-use Rattle.time_zone_store.specs.declared.Replayed.{Replayed}
 use borrow.Author.Needs.{needs}
 use Rattle.time_zone_store.proofs.replay.not_replayed.Statement.{statement}
 use Rattle.time_zone_store.proofs.replay.not_replayed.Tie as tie

@@ -1,6 +1,6 @@
 -- `replay::replay` meets its contract.
 use mathlib.Core.List.{List}
-use mathlib.Core.Path.{_≡_, refl, sym, ap, _∙_}
+use mathlib.Core.Path.{_≡_, sym, ap, _∙_}
 use Prim.Native.Nat.{ℕ}
 use Rattle.model.specs.declared.Refusal.the-variants.{Unreadable}
 use Rattle.model.specs.History.{Call}
@@ -9,7 +9,6 @@ use Rattle.lookups.specs.declared.Walk.{Walk}
 use Rattle.history.proofs.Reading.{is-history}
 use Rattle.time_zone_store.specs.declared.TimeZoneStore.{TimeZoneStore}
 use Rattle.time_zone_store.specs.declared.StoreAnswer.{StoreAnswer}
-use Rattle.time_zone_store.specs.declared.Replayed.{Replayed}
 use Rattle.time_zone_store.specs.Stores.{newStore}
 use Rattle.time_zone_store.specs.Claim.{storeThrough, walkBy}
 use Rattle.time_zone_store.specs.Replay.{replayedThrough, notReplayed}

@@ -1,16 +1,16 @@
 -- `replay::through` meets its contract.
-use mathlib.Core.Bool.{Bool, true}
+use mathlib.Core.Bool.{true}
 use mathlib.Core.List.{List, []}
 use mathlib.Core.Option.{Option, none, some}
-use mathlib.Core.Path.{_≡_, refl, sym, ap, _∙_}
-use Prim.Native.Nat.{ℕ, _+_, _-_, _≤_, _<_}
+use mathlib.Core.Path.{_≡_, sym, ap, _∙_}
+use Prim.Native.Nat.{ℕ, _+_, _-_}
 use native.Mathlib.Omega.{arith}
 use borrow.Author.Needs.{needs}
 use lib.ListN.{length, take, drop}
 use Rattle.model.specs.Basics.{isSome}
 use Rattle.model.specs.History.{Call}
 use Rattle.history.specs.Calls.{callWith, readCalls}
-use Rattle.history.specs.Laws.{There, Fold, FoldLaws}
+use Rattle.history.specs.Laws.{There, Fold}
 use Rattle.history.proofs.Reading.{call-there, fold-laws}
 use Rattle.time_zone_store.specs.Claim.{storeNext, storeThrough}
 use Rattle.time_zone_store.proofs.replay.through.Statement.{statement}

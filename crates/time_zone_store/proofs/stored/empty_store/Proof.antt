@@ -1,7 +1,6 @@
 -- `stored::empty_store` meets its contract.
 use mathlib.Core.Path.{ap}
 use Rattle.record.specs.declared.TimeZoneStoreData.{TimeZoneStoreData}
-use Rattle.time_zone_store.specs.declared.TimeZoneStore.{TimeZoneStore}
 use borrow.Author.Needs.{needs}
 use Rattle.time_zone_store.proofs.stored.empty_store.Statement.{statement}
 use Rattle.time_zone_store.proofs.stored.empty_store.Tie as tie

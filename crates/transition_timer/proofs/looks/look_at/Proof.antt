@@ -1,7 +1,7 @@
 -- `transition_timer::looks::look_at` meets its contract: each field is what a call answered.
 use mathlib.Core.Bool.{Bool, _&&_, cond}
-use mathlib.Core.Option.{Option, none, some}
-use mathlib.Core.Path.{_≡_, refl, ap, _∙_}
+use mathlib.Core.Option.{Option, none}
+use mathlib.Core.Path.{_≡_, ap, _∙_}
 use Prim.Native.Nat.{ℕ}
 use borrow.Author.Needs.{needs}
 use lib.IntN.{ℤ}
@@ -11,8 +11,8 @@ use Rattle.model.specs.Basics.{isSome}
 use Rattle.model.specs.Lookups.{activeOffset, nextTransition}
 use Rattle.model.specs.Maybe.{optionU64, maybeU64, optionI32, maybeI32}
 use Rattle.model.specs.Timer.{zoneDue, activeDue, emptyDue}
+use Rattle.model.proofs.Maybe.{moment-back, offset-back}
 use Rattle.record.specs.Data.{listsOf}
-use Rattle.record.proofs.AtIndex.{back}
 use Rattle.lookups.specs.declared.ActiveTimeZone.{ActiveTimeZone}
 use Rattle.lookups.specs.Shown.{shown}
 use Rattle.transition_timer.specs.declared.Seen.{Seen}
@@ -23,10 +23,6 @@ use Rattle.transition_timer.specs.declared.Look.{Look}
 use Rattle.transition_timer.specs.Meaning.{seenOf, timerOf, seenFrom, sleepBy, lookSeeing}
 use Rattle.transition_timer.proofs.looks.look_at.Statement.{statement}
 use Rattle.transition_timer.proofs.looks.look_at.Tie as tie
-
-offset-back : (o : Option ℤ) → optionI32 (maybeI32 o) ≡ o
-offset-back none = refl
-offset-back (some z) = refl
 
 -- what is seen, from what the calls answered
 seen-is : (z zone : ActiveTimeZone) (o : Option ℤ) (m : MaybeI32) (active usable u : Bool) (new : Seen)
@@ -43,7 +39,7 @@ look-is : (last : LastSeen) (z zone told : ActiveTimeZone) (next : MaybeU64) (o 
     (record { seen = Saw new; «zone_status» = zs; zone = told; «dst_status» = ds; «dst_active» = da; «dst_table_empty» = de; sleep = s })
     (lookSeeing last seen zone (sleepBy o now))
 look-is last z zone told next o now a new seen zs ds da de s ez en ea ex e1 e2 e3 e4 e5 e6 =
-    simp (e6, e5, e4, e3, e2, e1, ex, back o, ea, en, ez)
+    simp (e6, e5, e4, e3, e2, e1, ex, moment-back o, ea, en, ez)
 
 returns : tie.Need-returns
 returns c =

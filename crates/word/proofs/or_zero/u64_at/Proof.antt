@@ -1,6 +1,5 @@
 -- `word::or_zero::u64_at` meets its contract.
-use mathlib.Core.Path.{_≡_, sym, _∙_}
-use native.Mathlib.Omega.{arith}
+use mathlib.Core.Path.{sym, _∙_}
 use borrow.Author.Needs.{needs}
 use lib.Dec.{lit≤}
 use Rattle.word.proofs.Places.{fitting, word-is, word-none}

@@ -1,5 +1,5 @@
 -- `word::or_zero::u8_at` meets its contract.
-use mathlib.Core.Path.{_≡_, sym}
+use mathlib.Core.Path.{sym}
 use native.Mathlib.Omega.{arith}
 use borrow.Author.Needs.{needs}
 use lib.ListN.{List·getD-eq-default}
