@@ -1,27 +1,25 @@
 -- Writing and reading undo each other, and accepted lists put by value stand for themselves.
-use mathlib.Core.Bool.{Bool, true, false}
+use mathlib.Core.Bool.{true}
 use mathlib.Core.List.{List, [], _∷_, _++_, map}
 use mathlib.Core.Option.{Option, none, some}
 use mathlib.Core.Path.{_≡_, refl, sym, ap, _∙_}
 use Prim.Native.Nat.{ℕ, suc, _-_, _≤_}
 use native.Mathlib.Omega.{arith}
 use borrow.Author.Tests.{leb-true}
-use lib.Dec.{leb, lit≤}
 use lib.ListN.{length, take, replicate, length-map}
 use lib.Seq.{take-append-seam, take-all}
 use Rattle.model.specs.Basics.{All}
 use Rattle.model.specs.Lists.{Name, Zone, Window, Lists}
-use Rattle.model.specs.Rules.{largest, accepted, testFrom, nameFits, zoneRule, testZones, testWindows}
+use Rattle.model.specs.Rules.{largest, accepted, testFrom, nameFits, zoneRule, testZones}
 use Rattle.model.specs.Bytes.{recordBytes, readRecord}
-use Rattle.model.specs.Maybe.{optionU64, maybeU64}
 use Rattle.model.specs.Demand3.{Accepted}
 use Rattle.model.proofs.Accepted.{entry, zone-meets, zones-fit, windows-fit}
 use Rattle.model.proofs.WriteBack.{record-back}
 use Rattle.model.proofs.ReadBack.{record-written}
+use Rattle.model.proofs.Maybe.{moment-back}
 use Rattle.record.specs.Data.{zoneOf, windowOf, listsOf, padded, zoneOwned, windowEntry, blankZone, blankWindow, zoneArray, windowArray, dataOf}
 use Rattle.record.specs.Written.{recordOf}
 use Rattle.record.specs.RoundTrip.{bytesOf, WrittenReads, ReadWrites}
-use Rattle.record.proofs.AtIndex.{back}
 
 -- ## The bytes of a record
 
@@ -58,7 +56,7 @@ pub zone-same : (z : Zone) → nameFits (z .name) ≡ true → zoneOf (zoneOwned
 zone-same z h = name-same z (z .name) h
 
 pub window-same : (w : Window) → windowOf (windowEntry w) ≡ w
-window-same w = ap (λ (u : Option ℕ). record { offset = w .offset; start = w .start; until = u }) (back (w .until))
+window-same w = ap (λ (u : Option ℕ). record { offset = w .offset; start = w .start; until = u }) (moment-back (w .until))
 
 -- accepted zones have names that fit
 names-fit : (limit index : ℕ) (before : Option Zone) (zs : List Zone) → testFrom limit zoneRule index before zs ≡ accepted → All (λ z. nameFits (z .name) ≡ true) zs

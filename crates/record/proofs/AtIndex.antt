@@ -1,28 +1,20 @@
 -- Entry `i` of a readable request, as the readers answer it, is the `i`th of the list that it reads as.
-use mathlib.Core.Bool.{Bool, true, false, cond}
-use mathlib.Core.List.{List, [], _∷_}
-use mathlib.Core.Option.{Option, none, some}
-use mathlib.Core.Path.{_≡_, refl, sym, ap, _∙_}
+use mathlib.Core.List.{List, []}
+use mathlib.Core.Option.{Option, some}
+use mathlib.Core.Path.{_≡_, sym, ap, _∙_}
 use Prim.Native.Nat.{ℕ, _≤_, _<_}
 use native.Mathlib.Omega.{arith}
 use borrow.Author.Tests.{lt-ltb}
-use lib.ListN.{length, drop, getD, getElem?}
+use lib.ListN.{length, drop, getD}
 use Rattle.model.specs.Lists.{Name, Zone, Window}
-use Rattle.model.specs.Bytes.{Front, readZone, readWindow, readSection, whole, nothingLeft, readZones, readWindows}
-use Rattle.model.specs.Maybe.{optionU64, maybeU64}
-use Rattle.record.specs.declared.TimeZoneRead.{TimeZoneRead}
-use Rattle.record.specs.declared.DSTOffsetRead.{DSTOffsetRead}
-use Rattle.record.specs.Fronts.{placeOf, namePlace, zoneFound, zoneAt, windowFound, windowAt, placeAfter, nextZone, zoneFrom, zoneEntry, nextWindow, windowFrom, windowEntry}
+use Rattle.model.specs.Bytes.{Front, readZone, readWindow, readSection, readZones, readWindows}
+use Rattle.model.proofs.Maybe.{moment-back}
+use Rattle.record.specs.Fronts.{zoneFound, zoneAt, windowFound, windowAt, nextZone, zoneFrom, zoneEntry, nextWindow, windowFrom, windowEntry}
 use Rattle.record.specs.RoundTrip.{zoneRead, windowRead, ZoneIndexed, WindowIndexed}
 use Rattle.record.proofs.Front.{place-drop}
 use Rattle.record.proofs.Suffix.{zone-leaves, window-leaves}
-use Rattle.record.proofs.Meaning.{whole-is, section-read, Indexed, indexed}
+use Rattle.record.proofs.Meaning.{whole-is, section-read, indexed}
 use Rattle.record.proofs.Names.{zone-name}
-
--- a maybe-number there and back
-pub back : (u : Option ℕ) → optionU64 (maybeU64 u) ≡ u
-back none = refl
-back (some n) = refl
 
 module _ (s : List ℕ) where
   zone-goes : (at k : ℕ) (z : Zone) → readZone (drop at s) ≡ some (z, drop k s) → k ≤ length s → nextZone (zoneAt s at) ≡ some k
@@ -44,7 +36,7 @@ module _ (s : List ℕ) where
   unfolding windowAt
   window-there at w t e =
       ap (λ (f : Front Window). windowRead (windowFound s f)) e
-      ∙ ap (λ (u : Option ℕ). some (record { offset = w .offset; start = w .start; until = u })) (back (w .until))
+      ∙ ap (λ (u : Option ℕ). some (record { offset = w .offset; start = w .start; until = u })) (moment-back (w .until))
 
 pub zone-indexed : ZoneIndexed
 unfolding zoneEntry readZones

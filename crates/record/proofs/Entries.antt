@@ -1,23 +1,22 @@
 -- The bytes of a zone and of a window by value, by what they hold.
 use mathlib.Core.Bool.{Bool, true, false, cond}
 use mathlib.Core.List.{List, [], _∷_, _++_, append-assoc}
-use mathlib.Core.Option.{Option, none, some}
-use mathlib.Core.Path.{_≡_, refl, sym, ap, _∙_}
-use Prim.Native.Nat.{ℕ, suc, _+_, _≤_, min}
+use mathlib.Core.Option.{none, some}
+use mathlib.Core.Path.{_≡_, sym, ap, _∙_}
+use Prim.Native.Nat.{ℕ, _+_, _≤_, min}
 use native.Mathlib.Omega.{arith}
 use borrow.Author.Tests.{leb-true, leb-false}
 use lib.Dec.{leb}
 use lib.ListN.{length, take, length-append, length-take}
 use lib.Seq.{take-all}
 use Rattle.model.specs.declared.MaybeU64.{MaybeU64}
-use Rattle.model.specs.Lists.{Name}
 use Rattle.model.specs.Bytes.{bytes, bitsOf, nameBytes, zoneBytes, untilBytes, windowBytes}
 use Rattle.model.specs.Maybe.{optionU64}
 use Rattle.model.proofs.Facts.{by-test}
 use Rattle.model.proofs.Words.{length-bytes}
 use Rattle.record.specs.declared.TimeZoneOwned.{TimeZoneOwned}
 use Rattle.record.specs.declared.DSTOffsetEntry.{DSTOffsetEntry}
-use Rattle.record.specs.Data.{nameOf, zoneOf, windowOf}
+use Rattle.record.specs.Data.{zoneOf, windowOf}
 use Rattle.record.specs.Written.{headBytes, zoneLength, untilLength, windowLength}
 
 -- the head and what follows the mark

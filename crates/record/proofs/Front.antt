@@ -1,28 +1,26 @@
 -- What an entry at a place reads as, by the length of what is there, its mark and its name.
-use mathlib.Core.Bool.{Bool, true, false, cond}
+use mathlib.Core.Bool.{true, false}
 use mathlib.Core.List.{List, [], _∷_}
 use mathlib.Core.Option.{Option, none, some}
-use mathlib.Core.Path.{_≡_, refl, sym, ap, _∙_}
-use Prim.Native.Nat.{ℕ, zero, suc, _+_, _-_, _≤_, _<_}
+use mathlib.Core.Path.{_≡_, refl, ap, _∙_}
+use Prim.Native.Nat.{ℕ, zero, suc, _+_, _≤_, _<_}
 use native.Mathlib.Numerals.{add-one}
 use native.Mathlib.Omega.{arith}
 use borrow.Author.Tests.{leb-true, leb-false}
-use lib.Dec.{leb, ltb, lit<}
+use lib.Dec.{leb, lit<}
 use lib.IntN.{ℤ}
 use lib.ListN.{length, take, drop, getD, length-drop}
 use lib.Seq.{drop-cons, length-take-le}
 use Rattle.model.specs.declared.MaybeU64.{MaybeU64}
-use Rattle.model.specs.Lists.{Name, Zone, Window}
-use Rattle.model.specs.Bytes.{Front, then, takeBytes, byte, named, readName, readUntil, readEntry, makeZone, makeWindow, readZone, readWindow, number, signed, wellFormed}
+use Rattle.model.specs.Lists.{Name}
+use Rattle.model.specs.Bytes.{Front, then, takeBytes, byte, named, readName, readUntil, readEntry, makeZone, makeWindow, number, signed, wellFormed}
 use Rattle.model.proofs.Facts.{by-test}
 use Rattle.word.specs.Place.{fitsAt, textAt}
 use Rattle.word.proofs.Places.{front-fits, front-short}
 use Rattle.record.specs.declared.NamePlace.the-variants as N
-use Rattle.record.specs.declared.TimeZoneRead.{TimeZoneRead}
 use Rattle.record.specs.declared.TimeZoneRead.the-variants as Z
-use Rattle.record.specs.declared.DSTOffsetRead.{DSTOffsetRead}
 use Rattle.record.specs.declared.DSTOffsetRead.the-variants as W
-use Rattle.record.specs.Fronts.{placeOf, namePlace, zoneFound, zoneAt, windowFound, windowAt}
+use Rattle.record.specs.Fronts.{placeOf, zoneFound, zoneAt, windowFound, windowAt}
 
 -- ## Places
 

@@ -1,16 +1,14 @@
 -- Entry `i` of a section, found by going from place to place.
-use mathlib.Core.Bool.{Bool, true, false, cond}
-use mathlib.Core.List.{List, [], _∷_}
 use mathlib.Core.Option.{Option, none, some}
-use mathlib.Core.Path.{_≡_, refl, sym, ap, _∙_}
+use mathlib.Core.Path.{_≡_, sym, ap, _∙_}
 use Prim.Native.Nat.{ℕ, zero, suc, _+_, _≤_, _<_}
 use native.Mathlib.Numerals.{add-one}
 use native.Mathlib.Omega.{arith}
 use borrow.Author.Tests.{ltb-true, ltb-false}
 use lib.Dec.{ltb}
-use lib.ListN.{length, getD}
 use Rattle.model.proofs.Facts.{by-test}
 use Rattle.record.specs.Fronts.{onward, placeAfter}
+use mathlib.Core.Bool.{true, false}
 
 module _ (next : ℕ → Option ℕ) where
   -- once there is no place there is none

@@ -3,6 +3,8 @@ pub mod Heads
 pub mod Suffix
 pub mod Sections
 pub mod Indexed
+pub mod Reader
+pub mod Requests
 pub mod Writes
 pub mod Entries
 pub mod Meaning

@@ -1,25 +1,22 @@
 -- What the readers' answers say of the entries that a section or a record reads as.
-use mathlib.Core.Bool.{Bool, true, false, cond}
-use mathlib.Core.List.{List, [], _∷_, cons≢nil}
+use mathlib.Core.Bool.{cond, true, false}
+use mathlib.Core.List.{List, [], _∷_}
 use mathlib.Core.Option.{Option, none, some}
 use mathlib.Core.Path.{_≡_, refl, sym, ap, _∙_}
 use Prim.Native.Nat.{ℕ, zero, suc, _+_, _-_, _≤_, _<_}
-use native.Mathlib.Numerals.{add-one}
 use native.Mathlib.Omega.{arith}
 use borrow.Author.Tests.{eq-eqb, ne-eqb, ltb-true, ltb-false}
 use lib.Dec.{eqb, ltb}
-use lib.ListN.{length, take, drop, getD, getElem?, length-drop}
+use lib.ListN.{length, drop, getD, getElem?, length-drop}
 use Rattle.model.specs.Lists.{Zone, Window, Lists}
-use Rattle.model.specs.Bytes.{Front, then, byte, readZone, readWindow, readAll, readSection, whole, nothingLeft, readSections, readZones, readWindows, readRecord}
-use Rattle.record.specs.declared.SectionRead.{SectionRead}
+use Rattle.model.specs.Bytes.{Front, then, byte, readZone, readWindow, readAll, readSection, whole, nothingLeft, readZones, readWindows, readRecord}
 use Rattle.record.specs.declared.SectionRead.the-variants as S
-use Rattle.record.specs.declared.RecordRead.{RecordRead}
 use Rattle.record.specs.declared.RecordRead.the-variants as R
 use Rattle.record.specs.Fronts.{placeOf, zonesAt, windowsAt, sectionFound, isWhole, zonesWhole, windowsWhole, windowsFound, zonesFound, recordAt, placeAfter}
 use Rattle.record.specs.RoundTrip.{requestFound, ZonesMean, WindowsMean, Sections, RecordMeans}
 use Rattle.model.proofs.Facts.{by-test}
-use Rattle.record.proofs.Front.{place-drop, byte-at, no-byte}
-use Rattle.record.proofs.Suffix.{Left, Leaves, left-all, left-on, left-place, then-leaves, zone-leaves, window-leaves}
+use Rattle.record.proofs.Front.{byte-at, no-byte}
+use Rattle.record.proofs.Suffix.{Left, Leaves, left-on, left-place, then-leaves, zone-leaves, window-leaves}
 use Rattle.record.proofs.Sections.{counted}
 use Rattle.record.proofs.Indexed.{place-more}
 

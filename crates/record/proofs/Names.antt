@@ -1,13 +1,13 @@
 -- A zone that was read at a place: its name stands where `namePlace` says.
-use mathlib.Core.Bool.{Bool, true, false, cond}
+use mathlib.Core.Bool.{Bool, true, false}
 use mathlib.Core.List.{List, [], _∷_}
 use mathlib.Core.Option.{Option, none, some}
 use mathlib.Core.Path.{_≡_, refl, sym, ap, _∙_}
-use Prim.Native.Nat.{ℕ, zero, suc, _+_, _≤_, _<_}
+use Prim.Native.Nat.{ℕ, zero, suc, _+_, _≤_}
 use native.Mathlib.Omega.{arith}
 use borrow.Author.Tests.{leb-true, leb-false}
 use lib.Dec.{leb}
-use lib.ListN.{length, take, drop, getD, length-take}
+use lib.ListN.{length, take, drop, getD}
 use Rattle.model.specs.Lists.{Name, Zone}
 use Rattle.model.specs.Bytes.{Front, then, takeBytes, byte, named, readName, makeZone, readZone, wellFormed}
 use Rattle.model.proofs.Facts.{by-test}

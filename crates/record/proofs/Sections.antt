@@ -1,22 +1,21 @@
 -- A section read entry by entry: what is left after each, and where the next one starts.
-use mathlib.Core.Bool.{Bool, true, false, cond}
 use mathlib.Core.List.{List, [], _∷_}
 use mathlib.Core.Option.{Option, none, some}
 use mathlib.Core.Path.{_≡_, refl, sym, ap, _∙_}
-use Prim.Native.Nat.{ℕ, zero, suc, _+_, _-_, _≤_, _<_}
+use Prim.Native.Nat.{ℕ, zero, suc, _+_, _≤_, _<_}
 use native.Mathlib.Omega.{arith}
 use borrow.Author.Tests.{eq-eqb, ne-eqb}
 use lib.IntN.{ℤ}
 use lib.ListN.{length, drop, getD}
 use Rattle.model.specs.declared.MaybeU64.{MaybeU64}
 use Rattle.model.specs.Lists.{Zone, Window}
-use Rattle.model.specs.Bytes.{Front, then, byte, readZone, readWindow, readAll, readSection}
+use Rattle.model.specs.Bytes.{Front, then, readZone, readWindow, readAll, readSection, byte}
 use Rattle.record.specs.declared.NamePlace.{NamePlace}
 use Rattle.record.specs.declared.TimeZoneRead.the-variants as Z
 use Rattle.record.specs.declared.DSTOffsetRead.the-variants as W
 use Rattle.record.specs.declared.SectionRead.{SectionRead}
 use Rattle.record.specs.declared.SectionRead.the-variants as S
-use Rattle.record.specs.Fronts.{placeOf, zoneFound, zoneAt, windowFound, windowAt, sectionFound, isWhole}
+use Rattle.record.specs.Fronts.{placeOf, zoneFound, zoneAt, windowFound, windowAt, sectionFound, takenFrom, readBefore, zonesAt, windowsAt, zonesTaken, windowsTaken, isWhole, zonesWhole, windowsWhole}
 use Rattle.record.proofs.Front.{place-drop, byte-at, no-byte}
 use Rattle.record.proofs.Suffix.{Leaves, left-place, zone-leaves, window-leaves}
 
@@ -170,3 +169,18 @@ whole-is len r count next e q = ap (isWhole len) e ∙ rw (eq-eqb next len q)
 
 pub whole-not : (len : ℕ) (r : SectionRead) (count next : ℕ) → r ≡ S.Entries count next → (next ≡ len → ⊥) → isWhole len r ≡ S.Unreadable
 whole-not len r count next e q = ap (isWhole len) e ∙ rw (ne-eqb next len q)
+
+-- ## A section taken by a reader
+
+-- what was taken, read off the reader again
+taken-read : (at : ℕ) (r : SectionRead) → readBefore (takenFrom at r .at) (takenFrom at r .found) ≡ r
+taken-read at S.Unreadable = refl
+taken-read at (S.Entries count next) = refl
+
+pub zones-taken : (s : List ℕ) → isWhole (length s) (readBefore (zonesTaken s 0 .at) (zonesTaken s 0 .found)) ≡ zonesWhole s
+unfolding zonesTaken zonesWhole
+zones-taken s = ap (isWhole (length s)) (taken-read 0 (zonesAt s 0))
+
+pub windows-taken : (s : List ℕ) → isWhole (length s) (readBefore (windowsTaken s 0 .at) (windowsTaken s 0 .found)) ≡ windowsWhole s
+unfolding windowsTaken windowsWhole
+windows-taken s = ap (isWhole (length s)) (taken-read 0 (windowsAt s 0))

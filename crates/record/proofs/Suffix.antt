@@ -1,5 +1,5 @@
 -- A reader leaves what stands from some place on.
-use mathlib.Core.Bool.{Bool, true, false, cond}
+use mathlib.Core.Bool.{Bool, true, false}
 use mathlib.Core.List.{List, [], _∷_}
 use mathlib.Core.Option.{Option, none, some}
 use mathlib.Core.Path.{_≡_, refl, sym, ap, _∙_}
@@ -10,8 +10,8 @@ use lib.Dec.{leb}
 use lib.IntN.{ℤ}
 use lib.ListN.{length, take, drop, length-drop}
 use lib.Seq.{drop-drop}
-use Rattle.model.specs.Lists.{Name, Zone, Window}
-use Rattle.model.specs.Bytes.{Front, then, takeBytes, byte, named, readName, readUntil, readEntry, makeZone, makeWindow, readZone, readWindow, readAll, number, wellFormed}
+use Rattle.model.specs.Lists.{Name}
+use Rattle.model.specs.Bytes.{Front, then, takeBytes, byte, named, readName, readUntil, readEntry, makeZone, makeWindow, readZone, readWindow, number, wellFormed}
 use Rattle.model.proofs.Facts.{by-test}
 use Rattle.record.specs.Fronts.{placeOf}
 

@@ -7,7 +7,7 @@ use native.Mathlib.Nat.{add-zero}
 use native.Mathlib.Numerals.{add-one}
 use native.Mathlib.Omega.{arith}
 use lib.ListN.{length, take, drop, set, getD, replicate, length-append, length-take, length-map, take-append-drop, List·getD-map, length-replicate}
-use lib.Seq.{take-suc, getD-take, length-take-le, take-length, take-all}
+use lib.Seq.{take-suc, getD-take, take-all}
 use Rattle.model.specs.Bytes.{allBytes}
 use Rattle.word.specs.Place.{fitsAt, put, placed}
 use Rattle.word.proofs.Laws.{length-put, put-put, put-one}

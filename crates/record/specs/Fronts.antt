@@ -1,13 +1,13 @@
 -- What a reader finds at a place of some bytes, and where it goes on.
-use mathlib.Core.Bool.{Bool, true, false, cond}
-use mathlib.Core.List.{List, [], _∷_}
+use mathlib.Core.Bool.{cond}
+use mathlib.Core.List.{List}
 use mathlib.Core.Option.{Option, none, some}
 use Prim.Native.Nat.{ℕ, zero, suc, _+_, _-_}
 use lib.Dec.{eqb, ltb}
 use lib.ListN.{length, take, drop, getD}
-use Rattle.model.specs.Lists.{Name, Zone, Window, Lists}
+use Rattle.model.specs.Lists.{Name, Zone, Window}
 use Rattle.model.specs.Maybe.{maybeU64}
-use Rattle.model.specs.Bytes.{Front, number, signed, readZone, readWindow, readAll, readSection}
+use Rattle.model.specs.Bytes.{Front, number, signed, readZone, readWindow, readSection}
 use Rattle.word.specs.Place.{fitsAt}
 use Rattle.record.specs.declared.read.Head.{Head}
 use Rattle.record.specs.declared.read.Head.the-variants as H
@@ -19,6 +19,9 @@ use Rattle.record.specs.declared.DSTOffsetRead.{DSTOffsetRead}
 use Rattle.record.specs.declared.DSTOffsetRead.the-variants as W
 use Rattle.record.specs.declared.SectionRead.{SectionRead}
 use Rattle.record.specs.declared.SectionRead.the-variants as S
+use Rattle.record.specs.declared.section.SectionCount.{SectionCount}
+use Rattle.record.specs.declared.section.SectionCount.the-variants as C
+use Rattle.record.specs.declared.section.SectionTaken.{SectionTaken}
 use Rattle.record.specs.declared.RecordRead.{RecordRead}
 use Rattle.record.specs.declared.RecordRead.the-variants as R
 
@@ -67,6 +70,22 @@ zonesAt s at = sectionFound s (readSection readZone (drop at s))
 
 unfoldable pub windowsAt : List ℕ → ℕ → SectionRead
 windowsAt s at = sectionFound s (readSection readWindow (drop at s))
+
+-- a section as a reader at `at` takes it: it goes on after the section, and stays where nothing is readable
+abbrev pub takenFrom : ℕ → SectionRead → SectionTaken
+takenFrom at S.Unreadable = record { at = at; found = C.Unreadable }
+takenFrom at (S.Entries count next) = record { at = next; found = C.Entries count }
+
+unfoldable pub zonesTaken : List ℕ → ℕ → SectionTaken
+zonesTaken s at = takenFrom at (zonesAt s at)
+
+unfoldable pub windowsTaken : List ℕ → ℕ → SectionTaken
+windowsTaken s at = takenFrom at (windowsAt s at)
+
+-- what a reader found that now stands at `at`
+abbrev pub readBefore : ℕ → SectionCount → SectionRead
+readBefore at C.Unreadable = S.Unreadable
+readBefore at (C.Entries count) = S.Entries count at
 
 -- a section after which nothing is left over of so many bytes
 abbrev pub isWhole : ℕ → SectionRead → SectionRead

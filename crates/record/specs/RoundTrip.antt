@@ -1,5 +1,4 @@
 -- What the answers of the readers and of the writer mean, and that writing and reading undo each other.
-use mathlib.Core.Bool.{Bool, true, false}
 use mathlib.Core.List.{List, []}
 use mathlib.Core.Option.{Option, none, some}
 use mathlib.Core.Path.{_≡_}
@@ -17,7 +16,6 @@ use Rattle.record.specs.declared.DSTOffsetRead.{DSTOffsetRead}
 use Rattle.record.specs.declared.DSTOffsetRead.the-variants as W
 use Rattle.record.specs.declared.SectionRead.{SectionRead}
 use Rattle.record.specs.declared.SectionRead.the-variants as S
-use Rattle.record.specs.declared.RecordRead.{RecordRead}
 use Rattle.record.specs.declared.RecordRead.the-variants as R
 use Rattle.record.specs.declared.TimeZoneStoreData.{TimeZoneStoreData}
 use Rattle.record.specs.declared.Record.{Record}

@@ -1,6 +1,7 @@
 // The bytes of the lists: sections read at a place of a slice, and the record written.
 pub mod owned;
 pub mod read;
+pub mod section;
 pub mod write;
 
 ghost use mathlib.Core.Path.{_≡_};

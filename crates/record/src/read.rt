@@ -1,11 +1,13 @@
 // Reads sections and records; nothing is copied.
 ghost use mathlib.Core.Path.{_≡_};
-ghost use Rattle.record.specs.Fronts.{headAt, zoneAt, windowAt, zonesAt, windowsAt, zoneEntry, windowEntry, isWhole, zonesWhole, windowsWhole, recordAt};
+ghost use Rattle.record.specs.Fronts.{headAt, zoneAt, windowAt, zonesAt, windowsAt, zoneEntry, windowEntry, isWhole, readBefore, zonesWhole, windowsWhole, recordAt};
 use crate::DSTOffsetRead;
 use crate::NamePlace;
 use crate::RecordRead;
 use crate::SectionRead;
 use crate::TimeZoneRead;
+use crate::section;
+use crate::section::SectionCount;
 use model::MaybeI32;
 use model::MaybeU64;
 
@@ -180,18 +182,32 @@ fn whole(r: SectionRead, len: usize) -> SectionRead
     }
 }
 
+// What a reader found before its position, where nothing is left over of `len` bytes.
+pub fn ended(found: SectionCount, at: usize, len: usize) -> SectionRead
+    ensures { λ r. ⌜ r ≡ isWhole len (readBefore at found) ⌝ }
+{
+    match found {
+        SectionCount::Unreadable => SectionRead::Unreadable,
+        SectionCount::Entries(count) => whole(SectionRead::Entries(count, at), len),
+    }
+}
+
 // A request for SetTimeZone: one section of zones and nothing else.
 pub fn time_zones(s: &[u8]) -> SectionRead
     ensures { λ r. ⌜ r ≡ zonesWhole (now (s .entry)) ⌝ }
 {
-    whole(time_zones_at(s, 0), s.len())
+    let mut r = section::new(s);
+    let found = section::take_time_zones(&mut r);
+    ended(found, r.at, s.len())
 }
 
 // A request for SetDSTOffset: one section of windows and nothing else.
 pub fn dst_offsets(s: &[u8]) -> SectionRead
     ensures { λ r. ⌜ r ≡ windowsWhole (now (s .entry)) ⌝ }
 {
-    whole(dst_offsets_at(s, 0), s.len())
+    let mut r = section::new(s);
+    let found = section::take_dst_offsets(&mut r);
+    ended(found, r.at, s.len())
 }
 
 // A stored record: a section of zones, one of windows, and nothing else.

@@ -1,8 +1,8 @@
 -- `record::owned::time_zone` meets its contract.
 use mathlib.Core.Bool.{true, false}
-use mathlib.Core.List.{List, [], _∷_, _++_}
-use mathlib.Core.Path.{_≡_, refl, sym, ap, _∙_}
-use Prim.Native.Nat.{ℕ, _+_, _-_, _≤_, _<_, min}
+use mathlib.Core.List.{List}
+use mathlib.Core.Path.{_≡_, sym, ap, _∙_}
+use Prim.Native.Nat.{ℕ, _-_, min}
 use native.Mathlib.Omega.{arith}
 use borrow.Author.Needs.{needs}
 use lib.IntN.{ℤ}
@@ -12,14 +12,13 @@ use lib.Seq.{drop-length, take-all}
 use borrow.Author.Tests.{leb-true, leb-false}
 use Rattle.model.proofs.Facts.{by-test}
 use mir.Syntax.{w32}
-use mir.Val.{toZ, ofZ}
 use mir.Facts.{toZ-ofZ}
 use Rattle.record.specs.declared.NamePlace.{NamePlace}
 use Rattle.record.specs.declared.NamePlace.the-variants as N
-use Rattle.record.specs.declared.TimeZoneOwned.{TimeZoneOwned}
 use Rattle.record.specs.Data.{padded, zoneOwned, zoneNamed}
 use Rattle.record.proofs.owned.time_zone.Statement.{statement}
 use Rattle.record.proofs.owned.time_zone.Tie as tie
+use mir.Val.{ofZ}
 
 -- what is left from a place, however far past the end it lies
 drop-least : (at : ℕ) (s : List ℕ) → drop (min at (length s)) s ≡ drop at s

@@ -2,12 +2,11 @@
 use mathlib.Core.List.{List, [], _∷_}
 use mathlib.Core.Option.{Option, none, some}
 use mathlib.Core.Path.{_≡_, refl, sym, ap, _∙_}
-use Prim.Native.Nat.{ℕ, _+_, _-_, _≤_, _<_}
+use Prim.Native.Nat.{ℕ, _-_, _≤_, _<_}
 use native.Mathlib.Omega.{arith}
 use borrow.Author.Needs.{needs}
 use borrow.Author.Tests.{lt-ltb, le-ltb}
 use lib.ListN.{length, getD}
-use Rattle.record.specs.declared.DSTOffsetRead.{DSTOffsetRead}
 use Rattle.record.specs.declared.DSTOffsetRead.the-variants as E
 use Rattle.record.specs.Fronts.{placeAfter, windowAt, nextWindow, windowFrom, windowEntry}
 use Rattle.record.proofs.Indexed.{place-more, place-stops}

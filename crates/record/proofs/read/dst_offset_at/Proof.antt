@@ -1,17 +1,14 @@
 -- `record::read::dst_offset_at` meets its contract.
-use mathlib.Core.Path.{_≡_, sym, ap, _∙_}
-use Prim.Native.Nat.{ℕ, _+_, _≤_}
+use mathlib.Core.Path.{_≡_, sym, _∙_}
+use Prim.Native.Nat.{_+_}
 use native.Mathlib.Omega.{arith}
 use borrow.Author.Needs.{needs}
-use lib.IntN.{ℤ}
-use lib.ListN.{length, getD}
+use lib.ListN.{getD}
 use mir.Syntax.{w32}
 use mir.Val.{toZ, ofZ}
-use Rattle.record.specs.declared.DSTOffsetRead.the-variants as W
 use Rattle.record.proofs.Heads.{There, head-found, head-missing}
-use Rattle.model.specs.declared.MaybeU64.{MaybeU64}
 use Rattle.word.proofs.Answers.{Present, u64-present, u64-missing}
-use Rattle.record.proofs.Front.{startAt, window-short, window-open, window-other-mark, window-cut, window-ended}
+use Rattle.record.proofs.Front.{window-short, window-open, window-other-mark, window-cut, window-ended}
 use Rattle.record.proofs.read.dst_offset_at.Statement.{statement}
 use Rattle.record.proofs.read.dst_offset_at.Tie as tie
 

@@ -1,10 +1,9 @@
 -- `record::read::record` meets its contract.
 use mathlib.Core.List.{List}
-use mathlib.Core.Path.{_≡_, refl, sym, ap, _∙_}
+use mathlib.Core.Path.{_≡_, sym, ap, _∙_}
 use Prim.Native.Nat.{ℕ}
 use borrow.Author.Needs.{needs}
 use lib.ListN.{length}
-use Rattle.record.specs.declared.RecordRead.{RecordRead}
 use Rattle.record.specs.declared.SectionRead.{SectionRead}
 use Rattle.record.specs.declared.SectionRead.the-variants as S
 use Rattle.record.specs.Fronts.{zonesAt, windowsAt, isWhole, windowsFound, zonesFound, recordAt}

@@ -1,7 +1,7 @@
 -- `record::read::time_zone_at` meets its contract.
 use mathlib.Core.Bool.{true}
-use mathlib.Core.Path.{_≡_, sym, ap, _∙_}
-use Prim.Native.Nat.{ℕ, _+_, _≤_, _<_}
+use mathlib.Core.Path.{_≡_, sym, _∙_}
+use Prim.Native.Nat.{ℕ, _+_, _≤_}
 use native.Mathlib.Omega.{arith}
 use borrow.Author.Needs.{needs}
 use borrow.Author.Tests.{leb-true}
@@ -10,7 +10,7 @@ use lib.ListN.{length, getD, take, drop}
 use mir.Syntax.{w32}
 use mir.Val.{toZ, ofZ}
 use Rattle.model.specs.Bytes.{wellFormed}
-use Rattle.word.specs.Place.{fitsAt, textAt}
+use Rattle.word.specs.Place.{fitsAt}
 use Rattle.word.proofs.Places.{text-there}
 use Rattle.record.specs.declared.NamePlace.{NamePlace}
 use Rattle.record.specs.declared.TimeZoneRead.the-variants as Z

@@ -1,8 +1,6 @@
 -- `record::read::whole` meets its contract.
-use mathlib.Core.Path.{_≡_, sym, ap, _∙_}
+use mathlib.Core.Path.{sym}
 use borrow.Author.Needs.{needs}
-use borrow.Author.Tests.{eq-eqb, ne-eqb}
-use Rattle.record.specs.Fronts.{isWhole}
 use Rattle.record.proofs.Sections.{whole-is, whole-not}
 use Rattle.record.proofs.read.whole.Statement.{statement}
 use Rattle.record.proofs.read.whole.Tie as tie

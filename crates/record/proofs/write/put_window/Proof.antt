@@ -1,6 +1,6 @@
 -- `record::write::put_window` meets its contract.
 use mathlib.Core.List.{List, _++_}
-use mathlib.Core.Path.{_≡_, refl, sym, ap, _∙_}
+use mathlib.Core.Path.{_≡_, sym, ap, _∙_}
 use Prim.Native.Nat.{ℕ, _+_, _≤_}
 use native.Mathlib.Omega.{arith}
 use borrow.Author.Needs.{needs}
@@ -8,13 +8,12 @@ use lib.IntN.{ℤ}
 use lib.ListN.{length, length-append}
 use mir.Syntax.{w32}
 use mir.Val.{toZ, ofZ}
-use Rattle.model.specs.Bytes.{bytes, bitsOf, windowBytes}
+use Rattle.model.specs.Bytes.{bytes, bitsOf}
 use Rattle.model.proofs.Words.{length-bytes}
 use Rattle.word.specs.Place.{put, placed}
 use Rattle.record.specs.declared.DSTOffsetEntry.{DSTOffsetEntry}
-use Rattle.record.specs.Data.{windowOf}
 use Rattle.record.specs.Written.{headBytes}
-use Rattle.record.proofs.Writes.{Wrote, wrote-none, wrote-put, wrote-placed, wrote-as}
+use Rattle.record.proofs.Writes.{Wrote, wrote-none, wrote-put, wrote-placed}
 use Rattle.record.proofs.Entries.{windowHead, open-bytes, ended-bytes, length-head, window-room, ended-length}
 use Rattle.record.proofs.write.put_window.Statement.{statement}
 use Rattle.record.proofs.write.put_window.Tie as tie

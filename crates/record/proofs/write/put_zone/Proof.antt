@@ -13,7 +13,7 @@ use Rattle.model.specs.Bytes.{bitsOf}
 use Rattle.word.specs.Place.{put}
 use Rattle.record.specs.declared.TimeZoneOwned.{TimeZoneOwned}
 use Rattle.record.specs.Written.{headBytes}
-use Rattle.record.proofs.Writes.{Wrote, wrote-none, wrote-put, wrote-byte, wrote-as}
+use Rattle.record.proofs.Writes.{Wrote, wrote-none, wrote-put, wrote-byte}
 use Rattle.record.proofs.Writes as writes
 use Rattle.record.proofs.Entries.{zoneHead, unnamed-bytes, named-bytes, take-min, length-head, zone-room, named-room}
 use Rattle.record.proofs.write.put_zone.Statement.{statement}

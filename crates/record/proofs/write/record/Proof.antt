@@ -1,6 +1,6 @@
 -- `record::write::record` meets its contract.
-use mathlib.Core.List.{List, [], _∷_, _++_}
-use mathlib.Core.Path.{_≡_, refl, sym, ap, _∙_}
+use mathlib.Core.List.{List, [], _++_}
+use mathlib.Core.Path.{_≡_, ap, _∙_}
 use Prim.Native.Nat.{ℕ, _+_, _-_, _≤_}
 use native.Mathlib.Omega.{arith}
 use borrow.Author.Needs.{needs}
@@ -8,7 +8,6 @@ use lib.ListN.{length, length-append, drop, replicate}
 use Rattle.model.specs.Lists.{Lists}
 use Rattle.model.specs.Bytes.{zonesBytes, windowsBytes, recordBytes}
 use Rattle.word.specs.Place.{put}
-use Rattle.record.specs.declared.Record.{Record}
 use Rattle.record.specs.Data.{zonesOf, listsOf}
 use Rattle.record.specs.Written.{recordOf}
 use Rattle.record.proofs.Writes.{zeros, length-zeros, drop-zeros, Wrote, wrote-none, wrote-put, same-length}

@@ -1,0 +1,177 @@
+// The clock as one record that the caller lends, and that each call reads or changes in its place.
+ghost use mathlib.Core.Path.{_≡_};
+ghost use Rattle.model.specs.Maybe.{optionU64};
+ghost use Rattle.model.specs.Clock.{resetPersist, load, reading, granularityRead, sourceRead, setUtcTime, setUtcTimePersist, setTrustedTimeSourcePersist};
+ghost use Rattle.rtc.specs.Meaning.{clockOf, optionSource, readingOf, resetOf, loadedOf, utcTimeSetOf, utcTimePersistedOf, sourcePersistedOf};
+use model::MaybeU64;
+use model::TimeGranularity;
+use model::TimeSource;
+use rtc::LoadAnswer;
+use rtc::MaybeSource;
+use rtc::Rtc;
+use rtc::SourceStored;
+use rtc::UtcTime;
+
+// What a setting answers: whether something changed, and whether it was kept and is to be reported.
+pub struct UtcTimeAnswer {
+    pub changed: bool,
+    pub kept: bool,
+}
+
+// The same, with the moment that is to be stored.
+pub struct UtcTimePersistAnswer {
+    pub changed: bool,
+    pub kept: bool,
+    pub stored: MaybeU64,
+}
+
+// The clock after a setting, beside its answer.
+struct AfterSetting {
+    rtc: Rtc,
+    answer: UtcTimeAnswer,
+}
+
+// The clock after a persisting setting, beside its answer.
+struct AfterPersisting {
+    rtc: Rtc,
+    answer: UtcTimePersistAnswer,
+}
+
+// Resets the clock; what is persisted for it is to be removed.
+pub fn reset_persist(rtc: &mut Rtc, build: u64)
+    ensures { λ _. ⌜ resetOf (now (rtc .exit)) ≡ resetPersist build ⌝ }
+{
+    let was = *rtc;
+    let new = was.reset_persist(build);
+    *rtc = new;
+}
+
+// Loads what is persisted; a source with fabric index 0 is a bad record, and the clock stays as it is.
+pub fn load_persist(rtc: &mut Rtc, build: u64, stored: MaybeU64, source: MaybeSource) -> LoadAnswer
+    ensures { λ r. ⌜ loadedOf (record { rtc = now (rtc .exit); answer = r })
+        ≡ load build (clockOf (now (rtc .entry))) (optionU64 stored) (optionSource source) ⌝ }
+{
+    let was = *rtc;
+    let done = was.load_persist(build, stored, source);
+    *rtc = done.rtc;
+    done.answer
+}
+
+// The current UTC time at a tick, or the last known one.
+pub fn utc_time(rtc: &Rtc, tick: u64) -> UtcTime
+    ensures { λ r. ⌜ readingOf r ≡ reading (clockOf (now (rtc .entry))) tick ⌝ }
+{
+    (*rtc).utc_time(tick)
+}
+
+// The granularity of the current UTC time, and none until the clock is set.
+pub fn utc_time_granularity(rtc: &Rtc) -> TimeGranularity
+    ensures { λ r. ⌜ r ≡ granularityRead (clockOf (now (rtc .entry))) ⌝ }
+{
+    (*rtc).utc_time_granularity()
+}
+
+// The source of the current UTC time, and none until the clock is set.
+pub fn utc_time_source(rtc: &Rtc) -> TimeSource
+    ensures { λ r. ⌜ r ≡ sourceRead (clockOf (now (rtc .entry))) ⌝ }
+{
+    (*rtc).utc_time_source()
+}
+
+// The trusted time source, or that there is none.
+pub fn trusted_time_source(rtc: &Rtc) -> MaybeSource
+    ensures { λ r. ⌜ optionSource r ≡ clockOf (now (rtc .entry)) .trusted ⌝ }
+{
+    (*rtc).trusted_time_source()
+}
+
+// Sets the UTC time and anchors it at the tick, where something changes or the clock is not set.
+pub fn set_utc_time(
+    rtc: &mut Rtc,
+    utc_us: u64,
+    granularity: TimeGranularity,
+    source: TimeSource,
+    tick: u64,
+) -> UtcTimeAnswer
+    ensures { λ r. ⌜ utcTimeSetOf (record { rtc = now (rtc .exit); changed = r .changed; kept = r .kept })
+        ≡ setUtcTime (clockOf (now (rtc .entry))) «utc_us» granularity source tick ⌝ }
+{
+    let was = *rtc;
+    let done = after_setting(was, utc_us, granularity, source, tick);
+    *rtc = done.rtc;
+    done.answer
+}
+
+// Sets the UTC time, and has a moment stored that is a day or more from the persisted one.
+pub fn set_utc_time_persist(
+    rtc: &mut Rtc,
+    utc_us: u64,
+    granularity: TimeGranularity,
+    source: TimeSource,
+    tick: u64,
+) -> UtcTimePersistAnswer
+    ensures { λ r. ⌜ utcTimePersistedOf (record { rtc = now (rtc .exit); changed = r .changed; kept = r .kept; stored = r .stored })
+        ≡ setUtcTimePersist (clockOf (now (rtc .entry))) «utc_us» granularity source tick ⌝ }
+{
+    let was = *rtc;
+    let done = after_persisting(was, utc_us, granularity, source, tick);
+    *rtc = done.rtc;
+    done.answer
+}
+
+// Installs or clears the trusted time source, and has it stored or removed.
+pub fn set_trusted_time_source_persist(rtc: &mut Rtc, source: MaybeSource) -> SourceStored
+    ensures { λ r. ⌜ sourcePersistedOf (record { rtc = now (rtc .exit); stored = r })
+        ≡ setTrustedTimeSourcePersist (clockOf (now (rtc .entry))) (optionSource source) ⌝ }
+{
+    let was = *rtc;
+    let done = was.set_trusted_time_source_persist(source);
+    *rtc = done.rtc;
+    done.stored
+}
+
+// A setting, its answer gathered in one field.
+fn after_setting(
+    rtc: Rtc,
+    utc_us: u64,
+    granularity: TimeGranularity,
+    source: TimeSource,
+    tick: u64,
+) -> AfterSetting
+    ensures { λ r. ⌜ utcTimeSetOf (record { rtc = r .rtc; changed = r .answer .changed; kept = r .answer .kept })
+        ≡ setUtcTime (clockOf rtc) «utc_us» granularity source tick ⌝ }
+{
+    let set = rtc.set_utc_time(utc_us, granularity, source, tick);
+    let after = set.rtc;
+    AfterSetting {
+        rtc: after,
+        answer: UtcTimeAnswer {
+            changed: set.changed,
+            kept: set.kept,
+        },
+    }
+}
+
+// A persisting setting, its answer gathered in one field.
+fn after_persisting(
+    rtc: Rtc,
+    utc_us: u64,
+    granularity: TimeGranularity,
+    source: TimeSource,
+    tick: u64,
+) -> AfterPersisting
+    ensures { λ r. ⌜ utcTimePersistedOf (record { rtc = r .rtc; changed = r .answer .changed; kept = r .answer .kept; stored = r .answer .stored })
+        ≡ setUtcTimePersist (clockOf rtc) «utc_us» granularity source tick ⌝ }
+{
+    let done = rtc.set_utc_time_persist(utc_us, granularity, source, tick);
+    let after = done.rtc;
+    let stored = done.stored;
+    AfterPersisting {
+        rtc: after,
+        answer: UtcTimePersistAnswer {
+            changed: done.changed,
+            kept: done.kept,
+            stored: stored,
+        },
+    }
+}
