@@ -380,6 +380,12 @@ def history_rows():
 HOUR = 3600
 
 
+def entry(letter, offset, start, tail):
+    """A listed zone or window."""
+    more = "" if tail is None else f" named {tail[1:].decode()}" if letter == b"A" else f" to {struct.unpack('<Q', tail)[0]}"
+    return f"({offset} from {start}{more})"
+
+
 class Device:
     def __init__(self):
         self.clock, self.lists, self.bytes, self.answers = None, ([], []), b"", []
@@ -399,15 +405,49 @@ class Device:
     def zones(self, *made):
         given = section([zone(*one) for one in made])
         self.bytes += b"Z" + struct.pack("<I", len(given)) + given
-        self.answers.append(zones_answer(entries(read_zone, given, 0)[0], 2))
-        self.lists = after(self.lists, (2, 2), SET_TIME_ZONE, given)
+        self.answers.append(5 if self.lists is None else zones_answer(entries(read_zone, given, 0)[0], 2))
+        self.lists = self.lists and after(self.lists, (2, 2), SET_TIME_ZONE, given)
         return self
 
     def windows(self, *made):
         given = section([window(*one) for one in made])
         self.bytes += b"D" + struct.pack("<I", len(given)) + given
-        self.answers.append(windows_answer(entries(read_window, given, 0)[0], 2))
-        self.lists = after(self.lists, (2, 2), SET_DST_OFFSET, given)
+        self.answers.append(5 if self.lists is None else windows_answer(entries(read_window, given, 0)[0], 2))
+        self.lists = self.lists and after(self.lists, (2, 2), SET_DST_OFFSET, given)
+        return self
+
+    def none(self):
+        """No list store from here on."""
+        self.bytes += b"N"
+        self.lists = None
+        return self
+
+    def load(self, given):
+        self.bytes += b"R" + struct.pack("<I", len(given)) + given
+        new = after(None, (2, 2), LOAD, given) if self.lists is not None else None
+        self.answers.append(7 if self.lists is not None and new is None else 0)
+        self.lists = new or self.lists
+        return self
+
+    def trusted(self, fabric):
+        self.bytes += b"T" + bytes([fabric])
+        self.answers.append(0 if fabric else 4)
+        return self
+
+    def listing(self):
+        """How many entries are listed, and each of them, with one index past the last."""
+        self.bytes += b"C"
+        if self.lists is None:
+            self.answers += [6, 6]
+            zone_list, window_list = [], []
+        else:
+            zone_list, window_list = self.lists[0] or [(0, 0, None)], self.lists[1]
+            self.answers += [len(zone_list), len(window_list)]
+        past = 6 if self.lists is None else 2
+        for letter, listed in ((b"A", zone_list), (b"B", window_list)):
+            for index in (*range(len(listed) + 1), 2**32, TOP):
+                self.bytes += letter + struct.pack("<Q", index)
+                self.answers.append(f"0{entry(letter, *listed[index])}" if index < len(listed) else f"{past}(0 from 0)")
         return self
 
     def local(self, tick):
@@ -418,6 +458,8 @@ class Device:
     def local_time(self, tick):
         if self.clock is None:
             return "null"
+        if self.lists is None:
+            return 6
         now = min(self.clock[0][0] + max(tick - self.clock[1], 0), TOP)
         spans = [(offset, start, end) for (offset, start, _), end in zip(self.lists[1], ends(self.lists[1]))]
         if not any(end is None or now < end for _, _, end in spans):
@@ -451,6 +493,20 @@ def script_rows():
     Device().utc(TOP - 1, 3, 0).windows((-2**31, 0)).local(0).local(9).row()
 
 
+def list_rows():
+    """Names of 64 and 65 bytes, the listings, loads, and the refusals 4 to 7."""
+    fine, long = "n" * 64, "n" * 65
+    Device().zones((0, 0, fine.encode())).listing().zones((0, 0, long.encode())).listing().zones((0, 0, ("ü" * 32).encode())).row()
+    Device().zones((0, 0, ("ü" * 33).encode())).listing().zones((3600, 0, b""), (-43200, 9)).windows((1, 5, 6), (-2**31, 6)).listing().zones().listing().row()
+    Device().windows((7, 1, 2), (8, 9, TOP)).windows((7, 2, 2)).listing().row()
+    good = section([zone(50400, 0, b"A")]) + section([window(2**31 - 1, 4, 5)])
+    for bad in (b"", good[:-1], good + b"\0", section([zone(0, 5)]) + b"\0", section([zone(0, i) for i in range(3)]) + b"\0", good[:-9] + b"\2" + good[-8:]):
+        Device().load(good).load(bad).listing().row()
+    Device().load(section([]) + section([])).listing().trusted(0).trusted(1).trusted(255).row()
+    Device().none().utc(5, 3, 0).local(0).zones((0, 0)).windows().load(b"").listing().trusted(0).trusted(2).row()
+    Device().none().local(0).zones((0, 0), (0, 0)).row()
+
+
 def oracle_rows():
     """Histories with the answers of the unchanged Rust: `differ --list tests/oracle_rows.txt --rows 200 --most 60` of oracle/ wrote them."""
     for line in pathlib.Path("tests/oracle_rows.txt").read_text().splitlines():
@@ -460,7 +516,7 @@ def oracle_rows():
 
 
 def main():
-    for ask in (utf8_rows, zone_rows, window_rows, record_rows, clock_rows, history_rows, script_rows, oracle_rows):
+    for ask in (utf8_rows, zone_rows, window_rows, record_rows, clock_rows, history_rows, script_rows, list_rows, oracle_rows):
         ask()
     where = pathlib.Path("crates/vectors")
     where.joinpath("stdin").write_text("".join(f"{letter} {given}\n" for letter, given, _ in rows))

@@ -1,10 +1,12 @@
 // What a device answers to a script: a new clock and a list store of limits 2 and 2, and calls one after the other.
+use crate::listing;
 use libc::STDOUT_FILENO;
 use local_time::LocalTime;
 use model::MaybeU64;
 use rtc::Rtc;
 use rules::Verdict;
 use time_sync::ListAnswer;
+use time_sync::MaybeNamed;
 use time_sync::MaybeU8;
 use time_sync::TimeSyncHandler;
 use time_zone_store::TimeZoneStore;
@@ -25,7 +27,7 @@ fn moment(s: &[u8], at: usize) -> u64 {
 }
 
 // Writes an answer's number: 0 where the call was taken.
-fn told(answer: Verdict) {
+pub fn told(answer: Verdict) {
     match answer {
         Verdict::Accepted => {
             io::write_all(STDOUT_FILENO, b" 0");
@@ -118,9 +120,92 @@ fn list(h: TimeSyncHandler, s: &[u8], zones: bool) -> Stepped {
     }
 }
 
+// A load of the lists: the length of the record, and the record.
+fn load(h: TimeSyncHandler, s: &[u8]) -> Stepped {
+    if s.len() < 5 {
+        return Stepped {
+            handler: h,
+            used: 0,
+        };
+    }
+    let n = size(s, 1);
+    if s.len() - 5 < n {
+        return Stepped {
+            handler: h,
+            used: 0,
+        };
+    }
+    let r = h.load_lists(true, &s[5..5 + n]);
+    let answer = r.answer;
+    told(answer);
+    let handler = r.handler;
+    Stepped {
+        handler,
+        used: 5 + n,
+    }
+}
+
+// SetTrustedTimeSource with a node 1 and its endpoint 2: the fabric index.
+fn trusted(h: TimeSyncHandler, fabric: u8) -> Stepped {
+    let r = h.set_trusted_time_source(fabric, MaybeNamed::Is(1, 2));
+    let answer = r.answer;
+    told(answer);
+    let handler = r.handler;
+    Stepped { handler, used: 2 }
+}
+
+// The device from here on, without its list store.
+fn without_store(h: TimeSyncHandler) -> Stepped {
+    let rtc = h.rtc;
+    let store = h.store;
+    Stepped {
+        handler: TimeSyncHandler {
+            rtc,
+            has_store: false,
+            store,
+        },
+        used: 1,
+    }
+}
+
+// A step that reads the lists: how many entries are listed, or the one at an index.
+fn listed(h: TimeSyncHandler, s: &[u8], letter: u8) -> Stepped {
+    if letter == b'C' {
+        listing::counts(h);
+        return Stepped {
+            handler: h,
+            used: 1,
+        };
+    }
+    let index = moment(s, 1) as usize;
+    if letter == b'A' {
+        listing::zone(h, index);
+    } else {
+        listing::window(h, index);
+    }
+    Stepped {
+        handler: h,
+        used: 9,
+    }
+}
+
+// The step at the front, by its letter, where it is none of the clock's.
+fn list_step(h: TimeSyncHandler, s: &[u8], letter: u8) -> Stepped {
+    if letter == b'N' {
+        return without_store(h);
+    }
+    if letter == b'R' {
+        return load(h, s);
+    }
+    if letter < b'D' {
+        return listed(h, s, letter);
+    }
+    list(h, s, letter == b'Z')
+}
+
 // The step at the front, by its letter.
 fn step(h: TimeSyncHandler, s: &[u8]) -> Stepped {
-    if s.len() == 0 {
+    if s.len() < 1 {
         return Stepped {
             handler: h,
             used: 0,
@@ -132,7 +217,10 @@ fn step(h: TimeSyncHandler, s: &[u8]) -> Stepped {
     if s[0] == b'L' {
         return local(h, s);
     }
-    list(h, s, s[0] == b'Z')
+    if s[0] == b'T' && 1 < s.len() {
+        return trusted(h, s[1]);
+    }
+    list_step(h, s, s[0])
 }
 
 // A new device.

@@ -2,6 +2,7 @@
 mod bytes;
 mod clock;
 mod device;
+mod listing;
 mod store;
 mod text;
 
