@@ -28,7 +28,7 @@ fn name(s: &[u8], at: usize) -> NamePlace
 }
 
 // The zone at `at`.
-pub fn zone(s: &[u8], at: usize) -> TimeZoneOwned
+pub(crate) fn zone(s: &[u8], at: usize) -> TimeZoneOwned
     requires { ⌜ at ≤ 1120 ⌝ }
     ensures { λ r. ⌜ r ≡ zoneOwned (zoneAt (now (s .entry)) at) ⌝ }
 {
@@ -50,7 +50,7 @@ fn until(s: &[u8], at: usize) -> MaybeU64
 }
 
 // The window at `at`.
-pub fn window(s: &[u8], at: usize) -> DSTOffsetEntry
+pub(crate) fn window(s: &[u8], at: usize) -> DSTOffsetEntry
     requires { ⌜ at ≤ 1120 ⌝ }
     ensures { λ r. ⌜ r ≡ windowEntry (windowAt (now (s .entry)) at) ⌝ }
 {

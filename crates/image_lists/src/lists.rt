@@ -23,7 +23,7 @@ pub fn window_count(s: &[u8]) -> usize
 }
 
 // The first n zones, and blanks after them.
-pub fn zones(s: &[u8], n: usize) -> [TimeZoneOwned; 8]
+pub(crate) fn zones(s: &[u8], n: usize) -> [TimeZoneOwned; 8]
     requires { ⌜ n ≤ 8 ⌝ }
     ensures { λ r. ⌜ r ≡ zoneArray (entriesFrom (λ i. zoneAt (now (s .entry)) (zonePlace i)) 0 n) ⌝ }
 {
@@ -38,7 +38,7 @@ pub fn zones(s: &[u8], n: usize) -> [TimeZoneOwned; 8]
 }
 
 // The first n windows, and blanks after them.
-pub fn windows(s: &[u8], n: usize) -> [DSTOffsetEntry; 16]
+pub(crate) fn windows(s: &[u8], n: usize) -> [DSTOffsetEntry; 16]
     requires { ⌜ n ≤ 16 ⌝ }
     ensures { λ r. ⌜ r ≡ windowArray (entriesFrom (λ i. windowAt (now (s .entry)) (windowPlace i)) 0 n) ⌝ }
 {

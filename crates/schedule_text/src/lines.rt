@@ -39,7 +39,7 @@ fn put_line(out: &mut [u8], at: usize, lists: TimeZoneStoreData, moment: u64) ->
 }
 
 // Writes a line for each moment of a walk.
-pub fn put_lines(out: &mut [u8], at: usize, lists: TimeZoneStoreData, walk: Walk) -> usize
+pub(crate) fn put_lines(out: &mut [u8], at: usize, lists: TimeZoneStoreData, walk: Walk) -> usize
     requires { ⌜ at + 2829 ≤ length (now out) ⌝ }
     ensures { λ r. ⌜ (now (out .exit) ≡ put (now (out .entry)) at (allBytes (line (listsOf lists)) (take (suc (walk .steps)) (walk .moments))))
         × (r ≡ at + length (allBytes (line (listsOf lists)) (take (suc (walk .steps)) (walk .moments)))) ⌝ }

@@ -9,7 +9,7 @@ ghost use Rattle.schedule_text.specs.Texts.{magnitude};
 use model::MaybeI32;
 
 // Writes bytes as they are.
-pub fn put_bytes(out: &mut [u8], at: usize, bytes: &[u8]) -> usize
+pub(crate) fn put_bytes(out: &mut [u8], at: usize, bytes: &[u8]) -> usize
     requires { ⌜ at + length (now bytes) ≤ length (now out) ⌝ }
     ensures { λ r. ⌜ (now (out .exit) ≡ put (now (out .entry)) at (now (bytes .entry))) × (r ≡ at + length (now (bytes .entry))) ⌝ }
 {
@@ -22,7 +22,7 @@ pub fn put_bytes(out: &mut [u8], at: usize, bytes: &[u8]) -> usize
 }
 
 // Writes a number, its front digits first.
-pub fn put_decimal(out: &mut [u8], at: usize, n: u64) -> usize
+pub(crate) fn put_decimal(out: &mut [u8], at: usize, n: u64) -> usize
     requires { ⌜ at + 20 ≤ length (now out) ⌝ }
     ensures { λ r. ⌜ (now (out .exit) ≡ put (now (out .entry)) at (decimal n)) × (r ≡ at + length (decimal n)) ⌝ }
 {
@@ -48,7 +48,7 @@ fn without_sign(z: i32) -> u64
 }
 
 // Writes a signed number, with `-` before a negative one.
-pub fn put_signed(out: &mut [u8], at: usize, z: i32) -> usize
+pub(crate) fn put_signed(out: &mut [u8], at: usize, z: i32) -> usize
     requires { ⌜ at + 21 ≤ length (now out) ⌝ }
     ensures { λ r. ⌜ (now (out .exit) ≡ put (now (out .entry)) at (signedDecimal z)) × (r ≡ at + length (signedDecimal z)) ⌝ }
 {
@@ -61,7 +61,7 @@ pub fn put_signed(out: &mut [u8], at: usize, z: i32) -> usize
 }
 
 // Writes an offset, and `-` where there is none.
-pub fn put_offset(out: &mut [u8], at: usize, offset: MaybeI32) -> usize
+pub(crate) fn put_offset(out: &mut [u8], at: usize, offset: MaybeI32) -> usize
     requires { ⌜ at + 21 ≤ length (now out) ⌝ }
     ensures { λ r. ⌜ (now (out .exit) ≡ put (now (out .entry)) at (offsetOrDash (optionI32 offset))) × (r ≡ at + length (offsetOrDash (optionI32 offset))) ⌝ }
 {
@@ -72,7 +72,7 @@ pub fn put_offset(out: &mut [u8], at: usize, offset: MaybeI32) -> usize
 }
 
 // Writes `yes` or `no`.
-pub fn put_yes_or_no(out: &mut [u8], at: usize, yes: bool) -> usize
+pub(crate) fn put_yes_or_no(out: &mut [u8], at: usize, yes: bool) -> usize
     requires { ⌜ at + 3 ≤ length (now out) ⌝ }
     ensures { λ r. ⌜ (now (out .exit) ≡ put (now (out .entry)) at (yesOrNo yes)) × (r ≡ at + length (yesOrNo yes)) ⌝ }
 {
