@@ -52,6 +52,10 @@ D κ = T.the-type (α κ)
 abbrev pub L : (κ : Lft) → LL.Laws (D κ)
 L κ = T′.the-laws (α κ)
 
+-- a reader of a slice, at a position
+abbrev pub reader : RefT (List ℕ) → ℕ → SectionReader
+reader s n = record { src = s; at = n }
+
 -- the reader at another position
 abbrev pub moved : SectionReader → ℕ → SectionReader
 moved h m = record { src = h .src; at = m }

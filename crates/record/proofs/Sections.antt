@@ -15,7 +15,7 @@ use Rattle.record.specs.declared.TimeZoneRead.the-variants as Z
 use Rattle.record.specs.declared.DSTOffsetRead.the-variants as W
 use Rattle.record.specs.declared.SectionRead.{SectionRead}
 use Rattle.record.specs.declared.SectionRead.the-variants as S
-use Rattle.record.specs.Fronts.{placeOf, zoneFound, zoneAt, windowFound, windowAt, sectionFound, takenFrom, readBefore, zonesAt, windowsAt, zonesTaken, windowsTaken, isWhole, zonesWhole, windowsWhole}
+use Rattle.record.specs.Fronts.{placeOf, zoneFound, zoneAt, windowFound, windowAt, sectionFound, takenFrom, readBefore, zonesAt, windowsAt, zonesTaken, windowsTaken, isWhole, zonesWhole, windowsWhole, zonesFound, recordBefore, recordAt}
 use Rattle.record.proofs.Front.{place-drop, byte-at, no-byte}
 use Rattle.record.proofs.Suffix.{Leaves, left-place, zone-leaves, window-leaves}
 
@@ -184,3 +184,16 @@ zones-taken s = ap (isWhole (length s)) (taken-read 0 (zonesAt s 0))
 pub windows-taken : (s : List ℕ) → isWhole (length s) (readBefore (windowsTaken s 0 .at) (windowsTaken s 0 .found)) ≡ windowsWhole s
 unfolding windowsTaken windowsWhole
 windows-taken s = ap (isWhole (length s)) (taken-read 0 (windowsAt s 0))
+
+-- what both steps took is the record
+both-taken : (s : List ℕ) (r : SectionRead)
+    → recordBefore (takenFrom 0 r .found) (takenFrom 0 r .at) (isWhole (length s) (windowsAt s (takenFrom 0 r .at))) ≡ zonesFound s r
+both-taken s S.Unreadable = refl
+both-taken s (S.Entries count next) = refl
+
+pub record-taken : (s : List ℕ) → let z = zonesTaken s 0 in let w = windowsTaken s (z .at) in
+    recordBefore (z .found) (z .at) (isWhole (length s) (readBefore (w .at) (w .found))) ≡ recordAt s
+unfolding zonesTaken windowsTaken recordAt
+record-taken s =
+    let z = takenFrom 0 (zonesAt s 0) in
+    ap (λ (w : SectionRead). recordBefore (z .found) (z .at) (isWhole (length s) w)) (taken-read (z .at) (windowsAt s (z .at))) ∙ both-taken s (zonesAt s 0)

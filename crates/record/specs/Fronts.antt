@@ -113,6 +113,11 @@ zonesFound s (S.Entries zones next) = windowsFound zones next (isWhole (length s
 unfoldable pub recordAt : List ℕ → RecordRead
 recordAt s = zonesFound s (zonesAt s 0)
 
+-- a section of zones that a reader found before `at`, and the section of windows that it read there
+abbrev pub recordBefore : SectionCount → ℕ → SectionRead → RecordRead
+recordBefore C.Unreadable at windows = R.Unreadable
+recordBefore (C.Entries zones) at windows = windowsFound zones at windows
+
 -- ## Entry `i` of the section at the front
 
 abbrev pub onward : (ℕ → Option ℕ) → Option ℕ → Option ℕ

@@ -1,6 +1,6 @@
 // Reads sections and records; nothing is copied.
 ghost use mathlib.Core.Path.{_≡_};
-ghost use Rattle.record.specs.Fronts.{headAt, zoneAt, windowAt, zonesAt, windowsAt, zoneEntry, windowEntry, isWhole, readBefore, zonesWhole, windowsWhole, recordAt};
+ghost use Rattle.record.specs.Fronts.{headAt, zoneAt, windowAt, zonesAt, windowsAt, zoneEntry, windowEntry, isWhole, readBefore, zonesWhole, windowsWhole, recordBefore, recordAt};
 use crate::DSTOffsetRead;
 use crate::NamePlace;
 use crate::RecordRead;
@@ -210,15 +210,32 @@ pub fn dst_offsets(s: &[u8]) -> SectionRead
     ended(found, r.at, s.len())
 }
 
+// What a reader found before `at` and then before `end`, where nothing is left over of `len` bytes.
+fn both_ended(
+    zones: SectionCount,
+    at: usize,
+    windows: SectionCount,
+    end: usize,
+    len: usize,
+) -> RecordRead
+    ensures { λ r. ⌜ r ≡ recordBefore zones at (isWhole len (readBefore end windows)) ⌝ }
+{
+    let SectionCount::Entries(zone_count) = zones else {
+        return RecordRead::Unreadable;
+    };
+    match ended(windows, end, len) {
+        SectionRead::Unreadable => RecordRead::Unreadable,
+        SectionRead::Entries(window_count, _) => RecordRead::Sections(zone_count, at, window_count),
+    }
+}
+
 // A stored record: a section of zones, one of windows, and nothing else.
 pub fn record(s: &[u8]) -> RecordRead
     ensures { λ r. ⌜ r ≡ recordAt (now (s .entry)) ⌝ }
 {
-    match time_zones_at(s, 0) {
-        SectionRead::Unreadable => RecordRead::Unreadable,
-        SectionRead::Entries(zones, at) => match whole(dst_offsets_at(s, at), s.len()) {
-            SectionRead::Unreadable => RecordRead::Unreadable,
-            SectionRead::Entries(windows, _) => RecordRead::Sections(zones, at, windows),
-        },
-    }
+    let mut r = section::new(s);
+    let zones = section::take_time_zones(&mut r);
+    let at = r.at;
+    let windows = section::take_dst_offsets(&mut r);
+    both_ended(zones, at, windows, r.at, s.len())
 }
