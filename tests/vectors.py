@@ -491,6 +491,10 @@ def script_rows():
     Device().utc(0, 3, 0).zones((-12 * HOUR, 0)).windows((0, 0)).local(0).local(12 * HOUR * 1_000_000 + 1).row()
     Device().utc(TOP, 3, 0).zones((14 * HOUR, 0)).windows((2**31 - 1, 0)).local(0).row()
     Device().utc(TOP - 1, 3, 0).windows((-2**31, 0)).local(0).local(9).row()
+    Device().utc(5 * 10**15, 3, 0).zones((14 * HOUR, 0)).windows((2**31 - 1, 0)).local(0).row()
+    Device().utc(2147526848 * 10**6, 3, 0).zones((-12 * HOUR, 0)).windows((-2**31, 0)).local(0).local(1).row()
+    # between two windows
+    Device().utc(25, 3, 0).windows((1, 10, 20), (1, 30, 40)).local(0).row()
 
 
 def list_rows():

@@ -3,7 +3,7 @@
 mod common;
 
 use common::{busy, made, prepared, windows, zones, Call, Lent, Library, DAY, HOUR};
-use timesync::{Attribute, Effect, Effects, Event};
+use timesync::{entry, Attribute, Effect, Effects, Event};
 
 use Effect::{Emit, RemoveMoment, RemoveRecord, RemoveSource, Report, StoreMoment, StoreRecord, StoreSource, WakeClient, WakeTimer};
 
@@ -121,8 +121,22 @@ fn set_dst_offset() {
 fn generation_starts_over() {
     let mut image = busy();
     image[12..16].fill(0xFF);
-    let (_, lent) = taken(&image, Call::ResetLists);
+    for call in [
+        Call::ResetLists,
+        Call::SetTimeZone { request: zones(&[]) },
+        Call::SetDstOffset { request: windows(&[]) },
+    ] {
+        assert_eq!(taken(&image, call).1.image[12..16], [0; 4]);
+    }
+    // a refused SetDSTOffset counts too, a refused SetTimeZone does not
+    let mut lent = Lent::new(&image, 962);
+    let request = windows(&[(0, 5, Some(5))]);
+    assert_eq!(Library::new().held(&Call::SetDstOffset { request }, &mut lent) & 0xFF, 2);
     assert_eq!(lent.image[12..16], [0; 4]);
+    let mut lent = Lent::new(&image, 962);
+    let request = zones(&[(0, 5, None)]);
+    assert_eq!(Library::new().held(&Call::SetTimeZone { request }, &mut lent), 2);
+    assert_eq!(lent.image[12..16], [0xFF; 4]);
     let (_, read) = taken(&image, Call::Generation);
     assert_eq!(read.n[0], u64::from(u32::MAX));
 }
@@ -210,6 +224,8 @@ fn the_clocks_own_setting() {
     // not kept, and stored all the same
     let (effects, kept) = taken(&lent.image, persist(9 * DAY, 5));
     assert_eq!((effects, kept.n[0]), (vec![StoreMoment], 0));
+    // the persisted moment was replaced: the same again stores nothing
+    assert_eq!(taken(&kept.image, persist(9 * DAY, 6)).0, []);
     // a first setting that changes nothing is kept: the image has the moment and the codes, but no anchor
     let mut unset = lent.image;
     unset[18] = 0;
@@ -363,4 +379,231 @@ fn attempts() {
     assert_eq!(taken(&applied.image, told(9 * DAY, 77, 31)).0, UTC);
     // the retries started over
     assert_eq!(taken(&applied.image, failed(31)).1.n[..2], [1, MINUTE]);
+}
+
+// ---- the timer
+
+/// Sets the clock to the moment 0 at the tick 0: from then on a tick is its moment.
+fn at_zero() -> Call {
+    Call::RtcSet {
+        utc: 0,
+        granularity: 4,
+        source: 2,
+        tick: 0,
+    }
+}
+
+/// An image with these lists and a clock on which a tick is its moment.
+fn listed(zone_list: &[(i32, u64, Option<&str>)], window_list: &[(i32, u64, Option<u64>)]) -> Vec<u8> {
+    prepared(
+        made(Some((2, 2))),
+        &[
+            Call::SetTimeZone { request: zones(zone_list) },
+            Call::SetDstOffset {
+                request: windows(window_list),
+            },
+            at_zero(),
+        ],
+    )
+}
+
+#[test]
+fn a_look_on_an_unset_clock_keeps_what_was_seen() {
+    let (effects, seen) = taken(&listed(&[(3600, 0, None)], &[]), Call::Look { tick: 1 });
+    assert_eq!((effects, seen.n), (vec![], [0, 0, 0, 1, 0]));
+    // the zone becomes another one while the clock is not set: nothing is told, and nothing forgotten
+    let request = zones(&[(7200, 0, Some("B"))]);
+    let unset = prepared(seen.image, &[Call::ResetClock { build: 0 }, Call::SetTimeZone { request }]);
+    let (effects, waiting) = taken(&unset, Call::Look { tick: 2 });
+    assert_eq!((effects, waiting.n), (vec![], [0, 0, 0, 1, 0]));
+    assert!(waiting.image == unset);
+    // told once the clock is set
+    let (effects, told) = taken(&prepared(waiting.image, &[at_zero()]), Call::Look { tick: 3 });
+    assert_eq!(
+        (effects, told.offset, told.n),
+        (vec![Emit(Event::TimeZoneStatus)], 7200, [1, 1, 0, 1, 0])
+    );
+    assert_eq!(told.out[..2], [b'B', 0xA5]);
+}
+
+#[test]
+fn another_name_is_no_event() {
+    let image = listed(&[(3600, 0, Some("A")), (3600, 10, Some("B"))], &[]);
+    let (effects, first) = taken(&image, Call::Look { tick: 5 });
+    assert_eq!((effects, first.n), (vec![], [0, 0, 0, 2, 100_005]));
+    // by a transition
+    let (effects, second) = taken(&first.image, Call::Look { tick: 15 });
+    assert_eq!((effects, second.offset, second.n), (vec![], 0, [0, 0, 0, 1, 0]));
+    assert!(second.out.iter().all(|b| *b == 0xA5));
+    // by a command
+    for name in [None, Some(""), Some("C")] {
+        let request = zones(&[(3600, 0, name)]);
+        let renamed = prepared(second.image.clone(), &[Call::SetTimeZone { request }]);
+        assert_eq!(taken(&renamed, Call::Look { tick: 16 }).0, [], "{name:?}");
+    }
+}
+
+#[test]
+fn adjacent_windows() {
+    let image = listed(&[], &[(3600, 0, Some(10)), (1800, 10, Some(20))]);
+    let (effects, first) = taken(&image, Call::Look { tick: 5 });
+    assert_eq!((effects, first.n), (vec![Emit(Event::DSTStatus)], [0, 0, 1, 2, 100_005]));
+    // another offset, but a window is active as before
+    let (effects, second) = taken(&first.image, Call::Look { tick: 15 });
+    assert_eq!((effects, second.n), (vec![], [0, 0, 0, 2, 100_005]));
+}
+
+#[test]
+fn a_refused_command_empties_the_table_once() {
+    let (effects, usable) = taken(&listed(&[], &[(3600, 10, Some(20))]), Call::Look { tick: 5 });
+    assert_eq!((effects, usable.n), (vec![], [0, 0, 0, 2, 100_005]));
+    let mut refused = Lent::new(&usable.image, 962);
+    let request = windows(&[(0, 5, Some(5))]);
+    assert_eq!(Library::new().held(&Call::SetDstOffset { request }, &mut refused), 0x3002);
+    // told by the next look, and by no later one
+    let (effects, empty) = taken(&refused.image, Call::Look { tick: 6 });
+    assert_eq!((effects, empty.n), (vec![Emit(Event::DSTTableEmpty)], [0, 0, 0, 1, 0]));
+    let (effects, later) = taken(&empty.image, Call::Look { tick: 7 });
+    assert_eq!((effects, later.n), (vec![], [0, 0, 0, 1, 0]));
+}
+
+#[test]
+fn the_longest_sleep() {
+    // held at the largest number, which is not until woken
+    for (start, sleep) in [
+        (u64::MAX, u64::MAX),
+        (u64::MAX - 99_999, u64::MAX),
+        (u64::MAX - 100_000, u64::MAX),
+        (u64::MAX - 100_001, u64::MAX - 1),
+    ] {
+        let by_zone = listed(&[(0, 0, None), (3600, start, None)], &[]);
+        assert_eq!(taken(&by_zone, Call::Look { tick: 0 }).1.n, [0, 0, 0, 2, sleep]);
+        let by_window = listed(&[], &[(3600, start, None)]);
+        assert_eq!(taken(&by_window, Call::Look { tick: 0 }).1.n, [0, 0, 0, 2, sleep]);
+    }
+}
+
+#[test]
+fn a_window_inside_the_margin_is_slept_over() {
+    let image = listed(&[(0, 0, None)], &[(3600, 1000, Some(2000))]);
+    let (effects, before) = taken(&image, Call::Look { tick: 500 });
+    assert_eq!((effects, before.n), (vec![], [0, 0, 0, 2, 100_500]));
+    // it came and went: it was never seen active
+    let (effects, after) = taken(&before.image, Call::Look { tick: 101_000 });
+    assert_eq!((effects, after.n), (vec![Emit(Event::DSTTableEmpty)], [0, 0, 0, 1, 0]));
+}
+
+// ---- the client
+
+const SECOND: u64 = 1_000_000;
+
+/// An image with a trusted time source, no list store and a client of this period.
+fn sourced(period: u64) -> Vec<u8> {
+    let mut image = vec![0x5A; timesync::IMAGE_SIZE];
+    assert_eq!(entry::new(&mut image, 0, 0, 0, 7 * DAY, period), 0);
+    let source = Call::SetTrustedTimeSource {
+        fab_idx: 1,
+        named: 1,
+        node_id: 2,
+        endpoint: 3,
+    };
+    prepared(image, &[source])
+}
+
+/// An attempt that failed.
+fn failure(tick: u64) -> Call {
+    Call::Attempt {
+        answered: 0,
+        has_utc: 1,
+        utc: 1,
+        has_granularity: 1,
+        granularity: 4,
+        tick,
+    }
+}
+
+/// An attempt that brought a reading; beside the mark of what is missing stands a number that would do.
+fn reading(utc: Option<u64>, granularity: Option<u8>, tick: u64) -> Call {
+    Call::Attempt {
+        answered: 1,
+        has_utc: u8::from(utc.is_some()),
+        utc: utc.unwrap_or(DAY),
+        has_granularity: u8::from(granularity.is_some()),
+        granularity: granularity.unwrap_or(4),
+        tick,
+    }
+}
+
+#[test]
+fn the_first_retry_is_at_most_the_period() {
+    // the period, the wait after a failure and the wait after the next one, in seconds
+    for (period, first, second) in [(0, 0, 0), (59, 59, 59), (60, 60, 60), (61, 60, 61)] {
+        let (_, once) = taken(&sourced(period * SECOND), failure(0));
+        assert_eq!(once.n[..2], [1, first * SECOND], "{period}");
+        let (_, twice) = taken(&once.image, failure(1));
+        assert_eq!(twice.n[..2], [1, second * SECOND], "{period}");
+    }
+}
+
+#[test]
+fn the_longest_retry() {
+    // doubled it would need a 65th bit
+    let mut image = sourced(u64::MAX);
+    image[64..72].copy_from_slice(&(1_u64 << 63).to_le_bytes());
+    for wait in [1 << 63, u64::MAX, u64::MAX] {
+        let (_, lent) = taken(&image, failure(0));
+        assert_eq!(lent.n[..2], [1, wait]);
+        image = lent.image;
+    }
+}
+
+#[test]
+fn a_reading_without_a_granularity() {
+    // it counts as Seconds, which are kept as Minutes
+    let (effects, applied) = taken(&sourced(HOUR), reading(Some(7 * DAY + 1), None, 5));
+    assert_eq!((effects, &applied.n[..2]), (UTC.to_vec(), &[1, HOUR][..]));
+    assert_eq!(taken(&applied.image, Call::Granularity).1.n[0], 1);
+    assert_eq!(taken(&applied.image, Call::UtcTime { tick: 7 }).1.n[..2], [1, 7 * DAY + 3]);
+}
+
+#[test]
+fn an_equal_reading_is_applied() {
+    let equal = |tick| reading(Some(7 * DAY + 1), Some(3), tick);
+    let image = prepared(sourced(HOUR), &[equal(5), failure(6), failure(7)]);
+    // nothing to report or to store, and a wait of the period
+    let (effects, applied) = taken(&image, equal(8));
+    assert_eq!((effects, &applied.n[..2]), (vec![], &[1, HOUR][..]));
+    // the anchor stays, and the retries start over
+    assert_eq!(taken(&applied.image, Call::UtcTime { tick: 9 }).1.n[..2], [1, 7 * DAY + 5]);
+    assert_eq!(taken(&applied.image, failure(9)).1.n[..2], [1, 60 * SECOND]);
+}
+
+#[test]
+fn each_event_has_its_own_hour() {
+    let (effects, mut lent) = taken(&sourced(HOUR), reading(None, Some(4), 0));
+    assert_eq!(effects, [Emit(Event::TimeFailure)]);
+    // the hours began at 0 and at 1 second
+    for (seconds, event) in [
+        (1, Some(Event::MissingTrustedTimeSource)),
+        (3_599, None),
+        (3_600, Some(Event::TimeFailure)),
+        (3_601, Some(Event::MissingTrustedTimeSource)),
+        (7_199, None),
+    ] {
+        let (effects, next) = taken(&lent.image, failure(seconds * SECOND));
+        assert_eq!(effects, event.map(Emit).into_iter().collect::<Vec<_>>(), "{seconds}");
+        lent = next;
+    }
+}
+
+#[test]
+fn an_applied_time_keeps_the_hours() {
+    let both = [Emit(Event::MissingTrustedTimeSource), Emit(Event::TimeFailure)];
+    let (effects, failed) = taken(&sourced(HOUR), failure(0));
+    assert_eq!(effects, both);
+    let (effects, applied) = taken(&failed.image, reading(Some(7 * DAY + 1), Some(4), 60 * SECOND));
+    assert_eq!(effects, UTC);
+    // the failure after it is still in the hour of the first one
+    assert_eq!(taken(&applied.image, failure(120 * SECOND)).0, []);
+    assert_eq!(taken(&applied.image, failure(HOUR)).0, both);
 }

@@ -66,6 +66,33 @@ fn long_images() {
 }
 
 #[test]
+fn any_bytes_as_a_request() {
+    let (mut library, image) = (Library::new(), busy());
+    let mut state = 0x9E37_79B9_7F4A_7C15_u64;
+    let mut next = || {
+        state ^= state << 13;
+        state ^= state >> 7;
+        state ^= state << 17;
+        state
+    };
+    for length in 0..1100 {
+        // a small count in front, so that some of them get further than the first entry
+        let mut request: Vec<u8> = (0..length).map(|_| next() as u8).collect();
+        if let Some(count) = request.first_mut() {
+            *count %= 4;
+        }
+        let stored = request.clone();
+        for call in [
+            Call::SetTimeZone { request: request.clone() },
+            Call::SetDstOffset { request },
+            Call::LoadLists { there: 1, stored },
+        ] {
+            library.held(&call, &mut Lent::new(&image, 962));
+        }
+    }
+}
+
+#[test]
 fn every_value_of_every_byte_of_the_head() {
     let (mut library, image) = (Library::new(), busy());
     let calls: Vec<Call> = every_call().into_iter().step_by(3).collect();

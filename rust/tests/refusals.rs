@@ -52,6 +52,15 @@ fn unreadable() {
     let mut marked = zones(&[(0, 0, None)]);
     marked[13] = 2;
     assert_eq!(number(&image, 962, Call::SetTimeZone { request: marked }), 1);
+    // in the middle of three entries
+    for mark in [2, 255] {
+        let mut marked = zones(&[(0, 0, None), (0, 1, None), (0, 2, None)]);
+        marked[26] = mark;
+        assert_eq!(number(&image, 962, Call::SetTimeZone { request: marked }), 1);
+        let mut marked = windows(&[(0, 1, None), (0, 2, None), (0, 3, None)]);
+        marked[26] = mark;
+        assert_eq!(number(&image, 962, Call::SetDstOffset { request: marked }), 1);
+    }
     let mut spoilt = good;
     let last = spoilt.len() - 1;
     spoilt[last] = 0xFF;
@@ -125,6 +134,40 @@ fn unreadable() {
         ),
         1
     );
+}
+
+#[test]
+fn numbers_out_of_range() {
+    let image = busy();
+    let set = |granularity, source| {
+        number(
+            &image,
+            0,
+            Call::SetUtcTime {
+                utc: 1,
+                granularity,
+                has_source: 1,
+                source,
+                tick: 1,
+            },
+        )
+    };
+    // granularities end at 4 and time sources at 16
+    assert_eq!(set(255, 0), 1);
+    assert_eq!((set(4, 17), set(4, 255)), (1, 1));
+    for source in 0..=16 {
+        assert_eq!(set(4, source), 0, "{source}");
+    }
+}
+
+#[test]
+fn indexes_past_every_list() {
+    // cut to 32 bits the second would be that of the first entry
+    let image = busy();
+    for index in [65_535, 1 << 32] {
+        assert_eq!(number(&image, 962, Call::TimeZone { index }), 2);
+        assert_eq!(number(&image, 962, Call::DstOffset { index }), 2);
+    }
 }
 
 #[test]
@@ -345,6 +388,50 @@ fn no_space() {
     assert_eq!(number(&image, 2, Call::SetTimeZone { request: zones(&[]) }), 0);
     assert_eq!(number(&image, 55, Call::SetDstOffset { request: windows(&[]) }), 9);
     assert_eq!(number(&image, 56, Call::SetDstOffset { request: windows(&[]) }), 0);
+}
+
+/// A section whose last byte is spoilt.
+fn spoilt(mut request: Vec<u8>, byte: u8) -> Vec<u8> {
+    *request.last_mut().unwrap() = byte;
+    request
+}
+
+#[test]
+fn read_whole_before_the_rules() {
+    // limits 3 and 2
+    let image = busy();
+    let set = |request| number(&image, 962, Call::SetTimeZone { request });
+    let four = zones(&[(0, 0, None), (0, 1, None), (0, 2, None), (0, 3, Some("n"))]);
+    assert_eq!((set(four.clone()), set(spoilt(four, 0xFF))), (3, 1));
+    let long = "n".repeat(65);
+    let named = zones(&[(0, 0, Some(&long))]);
+    assert_eq!((set(named.clone()), set(spoilt(named, 0xFF))), (2, 1));
+    // the windows stay, which a refusal by the limit would empty
+    let three = windows(&[(0, 1, Some(2)), (0, 3, Some(4)), (0, 5, None)]);
+    let request = spoilt(three, 2);
+    assert_eq!(number(&image, 962, Call::SetDstOffset { request }), 1);
+}
+
+#[test]
+fn the_longest_request() {
+    let image = busy();
+    let long = "n".repeat(255);
+    let set = |request: &[u8]| {
+        let (mut lent, mut out, mut used) = (image.clone(), [0xAA; 962], 7);
+        let returned = entry::set_time_zone(&mut lent, request, &mut out, &mut used);
+        assert!(lent == image && out == [0xAA; 962] && used == 7);
+        returned
+    };
+    // 255 zones: the first at fault by its name, then the fourth by the limit
+    let all = zones(&(0..255).map(|i| (0, i, Some(long.as_str()))).collect::<Vec<_>>());
+    assert_eq!((all.len(), set(&all)), (68_596, 2));
+    let good = zones(
+        &(0..255)
+            .map(|i| (0, i, if i < 3 { None } else { Some(long.as_str()) }))
+            .collect::<Vec<_>>(),
+    );
+    assert_eq!(set(&good), 3);
+    assert_eq!((set(&spoilt(good.clone(), 0xFF)), set(&good[..good.len() - 1])), (1, 1));
 }
 
 #[test]

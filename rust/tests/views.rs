@@ -346,6 +346,13 @@ fn the_most_steps() {
     let zone_list: Vec<_> = (0..8).map(|i| (0, i * 1000, Some(name.as_str()))).collect();
     let window_list: Vec<_> = (0..16).map(|i| (0, 10 * i + 1, Some(10 * i + 5))).collect();
     assert!(c.handler_mut().handle_set_time_zone(&zones(&zone_list), &mut record).answer.is_ok());
+    // the largest record, and one byte less than it needs
+    assert_eq!(
+        c.handler_mut()
+            .handle_set_dst_offset(&windows(&window_list), &mut record[..RECORD_MAX - 1])
+            .answer,
+        Err(Refusal::NoSpace)
+    );
     assert_eq!(
         c.handler_mut().handle_set_dst_offset(&windows(&window_list), &mut record).answer,
         Ok(RECORD_MAX)

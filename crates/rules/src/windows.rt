@@ -52,7 +52,7 @@ fn passes(before: Before, start: u64, until: MaybeU64) -> bool
 }
 
 // What SetDSTOffset says of the n windows from `at` on, where they are readable.
-pub fn tested(s: &[u8], at: usize, n: usize, limit: usize) -> Verdict
+pub(crate) fn tested(s: &[u8], at: usize, n: usize, limit: usize) -> Verdict
     ensures { λ r. ⌜ WindowsTested (now (s .entry)) at n limit r ⌝ }
 {
     let mut next = at;

@@ -66,7 +66,7 @@ fn passes(index: usize, before: MaybeU64, offset: i32, start: u64, name: NamePla
 }
 
 // What SetTimeZone says of the n zones from `at` on, where they are readable.
-pub fn tested(s: &[u8], at: usize, n: usize, limit: usize) -> Verdict
+pub(crate) fn tested(s: &[u8], at: usize, n: usize, limit: usize) -> Verdict
     ensures { λ r. ⌜ ZonesTested (now (s .entry)) at n limit r ⌝ }
 {
     let mut next = at;

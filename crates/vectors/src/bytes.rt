@@ -12,7 +12,7 @@ use record::TimeZoneRead;
 use record::TimeZoneStoreData;
 
 // Whether the bytes are well-formed UTF-8.
-pub fn utf8(s: &[u8]) {
+pub(crate) fn utf8(s: &[u8]) {
     if word::text::utf8(s) {
         io::write_all(STDOUT_FILENO, b"well-formed");
         return;
@@ -79,7 +79,7 @@ fn count(r: SectionRead) -> usize {
 }
 
 // Writes the zones of a section.
-pub fn zones(s: &[u8]) {
+pub(crate) fn zones(s: &[u8]) {
     let n = count(record::read::time_zones(s));
     let mut i: usize = 0;
     while i < n {
@@ -90,7 +90,7 @@ pub fn zones(s: &[u8]) {
 }
 
 // Writes the windows of a section.
-pub fn windows(s: &[u8]) {
+pub(crate) fn windows(s: &[u8]) {
     let n = count(record::read::dst_offsets(s));
     let mut i: usize = 0;
     while i < n {
@@ -101,7 +101,7 @@ pub fn windows(s: &[u8]) {
 }
 
 // Writes how many zones and windows a record has.
-pub fn record(s: &[u8]) {
+pub(crate) fn record(s: &[u8]) {
     match record::read::record(s) {
         RecordRead::Unreadable => {
             io::write_all(STDOUT_FILENO, b"unreadable");

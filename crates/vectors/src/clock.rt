@@ -49,7 +49,7 @@ fn told(r: UtcTime) {
 }
 
 // The reading at a tick of a clock that was set to a moment at a tick: moment, tick of the setting, tick.
-pub fn reading(row: &[u8]) {
+pub(crate) fn reading(row: &[u8]) {
     let clock = set(
         text::number(row, 1),
         0,
@@ -60,7 +60,7 @@ pub fn reading(row: &[u8]) {
 }
 
 // The moment that a persisting call has stored: persisted moment, moment.
-pub fn persisting(row: &[u8]) {
+pub(crate) fn persisting(row: &[u8]) {
     let clock = set(0, text::number(row, 1), 0, TimeGranularity::Seconds);
     let r = clock.set_utc_time_persist(
         text::number(row, 2),
@@ -81,7 +81,7 @@ pub fn persisting(row: &[u8]) {
 }
 
 // What a setting of the same moment makes of the granularity: the clock's own, the new one.
-pub fn lowering(row: &[u8]) {
+pub(crate) fn lowering(row: &[u8]) {
     let own = granularity(text::number(row, 1));
     let new = granularity(text::number(row, 2));
     let r = set(7, 7, 0, own).set_utc_time(7, new, TimeSource::Admin, 9);
@@ -97,7 +97,7 @@ pub fn lowering(row: &[u8]) {
 }
 
 // The reading after a load on a set clock: build moment, stored moment, fabric index of the stored source.
-pub fn loading(row: &[u8]) {
+pub(crate) fn loading(row: &[u8]) {
     let clock = set(5, 5, 0, TimeGranularity::Seconds);
     let fabric = text::number(row, 3);
     if 255 < fabric {

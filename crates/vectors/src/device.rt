@@ -27,7 +27,7 @@ fn moment(s: &[u8], at: usize) -> u64 {
 }
 
 // Writes an answer's number: 0 where the call was taken.
-pub fn told(answer: Verdict) {
+pub(crate) fn told(answer: Verdict) {
     match answer {
         Verdict::Accepted => {
             io::write_all(STDOUT_FILENO, b" 0");
@@ -235,7 +235,7 @@ fn device() -> TimeSyncHandler {
 }
 
 // Runs a script, and writes what each step answers; it ends where no step can be read.
-pub fn script(s: &[u8]) {
+pub(crate) fn script(s: &[u8]) {
     let mut h = device();
     let mut at: usize = 0;
     while at < s.len() {

@@ -19,7 +19,7 @@ fn number(n: NumberRead) {
 }
 
 // How many zones are listed, and how many windows.
-pub fn counts(h: TimeSyncHandler) {
+pub(crate) fn counts(h: TimeSyncHandler) {
     number(h.time_zone_count());
     number(h.dst_offset_count());
 }
@@ -41,7 +41,7 @@ fn named(name: &[u8], n: usize) {
 }
 
 // The listed zone at an index, with its name as it is.
-pub fn zone(h: TimeSyncHandler, index: usize) {
+pub(crate) fn zone(h: TimeSyncHandler, index: usize) {
     let r = h.time_zone(index);
     let answer = r.answer;
     told(answer);
@@ -56,7 +56,7 @@ pub fn zone(h: TimeSyncHandler, index: usize) {
 }
 
 // The listed window at an index.
-pub fn window(h: TimeSyncHandler, index: usize) {
+pub(crate) fn window(h: TimeSyncHandler, index: usize) {
     let r = h.dst_offset(index);
     let answer = r.answer;
     told(answer);

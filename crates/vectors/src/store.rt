@@ -20,7 +20,7 @@ fn walked(w: Walk) {
 }
 
 // Runs a history: zone limit, window limit, starting moment, and the calls in hexadecimal digits.
-pub fn replayed(row: &[u8], history: &[u8]) {
+pub(crate) fn replayed(row: &[u8], history: &[u8]) {
     let zones = text::number(row, 1) as usize;
     let windows = text::number(row, 2) as usize;
     let r = time_zone_store::replay::replay(zones, windows, history, text::number(row, 3));

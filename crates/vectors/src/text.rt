@@ -6,7 +6,7 @@ use libc::STDOUT_FILENO;
 use word::MaybeU32;
 
 // Where the line that starts at `at` ends.
-pub fn line_end(s: &[u8], at: usize) -> usize
+pub(crate) fn line_end(s: &[u8], at: usize) -> usize
     requires { ⌜ at ≤ length (now s) ⌝ }
     ensures { λ r. ⌜ (at ≤ r) × (r ≤ length (now (s .entry))) ⌝ }
 {
@@ -40,7 +40,7 @@ fn digit(b: u8) -> u8
 }
 
 // The bytes that pairs of digits stand for, and how many were stored.
-pub fn hex(s: &[u8], out: &mut [u8]) -> usize
+pub(crate) fn hex(s: &[u8], out: &mut [u8]) -> usize
     ensures { λ r. ⌜ Counts r (now (out .exit)) ⌝ }
 {
     let mut i: usize = 0;
@@ -87,7 +87,7 @@ fn with_own(v: u64, b: u8, own: bool) -> u64 {
 }
 
 // Where word k of a row starts; its end where the row has no such word.
-pub fn word_start(s: &[u8], k: usize) -> usize
+pub(crate) fn word_start(s: &[u8], k: usize) -> usize
     ensures { λ r. ⌜ r ≤ length (now (s .entry)) ⌝ }
 {
     let mut word: usize = 0;
@@ -103,7 +103,7 @@ pub fn word_start(s: &[u8], k: usize) -> usize
 }
 
 // Word k of a row as a decimal number; the first word is 0.
-pub fn number(s: &[u8], k: usize) -> u64 {
+pub(crate) fn number(s: &[u8], k: usize) -> u64 {
     let mut word: usize = 0;
     let mut v: u64 = 0;
     let mut i: usize = 0;
@@ -116,7 +116,7 @@ pub fn number(s: &[u8], k: usize) -> u64 {
 }
 
 // Writes a number with its sign, by way of its four bytes.
-pub fn signed(z: i32) {
+pub(crate) fn signed(z: i32) {
     let mut b = [0u8; 4];
     word::put_i32(&mut b, 0, z);
     let MaybeU32::Is(n) = word::u32_at(&b, 0) else {
