@@ -13,7 +13,7 @@
  *   - A mark that is given by value (has_..., named, there, list_store, answered) says absent where it is 0 and present where it is any
  *     other number. What belongs to an absent mark is not looked at.
  *   - Moments are microseconds since the Matter epoch (2000-01-01 UTC); ticks are microseconds of a monotonic counter whose zero is
- *     the caller's. A tick before an earlier one counts as no time elapsed.
+ *     the caller's. A tick before that of the last setting counts as no time elapsed.
  *   - A length that a call copies is written as a 64-bit number.
  *
  * Results
@@ -105,7 +105,7 @@ extern "C" {
 #define TIMESYNC_INVALID_COMMAND 4    /* fabric index 0 */
 #define TIMESYNC_COMMAND_NOT_FOUND 5  /* a command on the lists, and there is no list store */
 #define TIMESYNC_ATTRIBUTE_NOT_FOUND 6 /* a reading of the lists, and there is no list store */
-#define TIMESYNC_BAD_RECORD 7         /* what flash held is not what was stored */
+#define TIMESYNC_BAD_RECORD 7         /* a record that cannot be read or taken here */
 #define TIMESYNC_BAD_LIMITS 8         /* limits that are not allowed, or a slice that is no image */
 #define TIMESYNC_NO_SPACE 9           /* an output slice is shorter than what is copied into it */
 

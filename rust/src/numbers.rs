@@ -102,7 +102,7 @@ numbered! {
         CommandNotFound = 5,
         /// A reading of the lists, and there is no list store.
         AttributeNotFound = 6,
-        /// What flash held is not what was stored.
+        /// A record in flash that cannot be read, or that is not taken here.
         BadRecord = 7,
         /// Limits that are not allowed, or bytes that are no image.
         BadLimits = 8,
