@@ -11,6 +11,7 @@ if [ ! -f "$TIMESYNC_LIB_DIR/libcontroller.a" ]; then
 fi
 work=$(mktemp -d)
 trap 'rm -rf "$work"' EXIT
+../../oracle/put.sh
 cargo build --offline --release --quiet
 bench=${CARGO_TARGET_DIR:-target}/release/bench
 
