@@ -5,7 +5,7 @@ ghost use mathlib.Core.Path.{_≡_};
 ghost use lib.IntN.{pos, _+ℤ_, _*ℤ_};
 ghost use Rattle.model.specs.Answers.{answers};
 ghost use Rattle.model.specs.Clock.{reliable};
-ghost use Rattle.model.specs.Lookups.{activeZone, lastActiveWindow, offsetOf, usable};
+ghost use Rattle.model.specs.Lookups.{lastActiveWindow, offsetOf, usable};
 ghost use Rattle.model.specs.LocalTime.{held, orZero, shown, localMoment, localTime};
 ghost use Rattle.model.specs.Maybe.{optionI32};
 ghost use Rattle.record.specs.Data.{listsOf};
@@ -13,7 +13,7 @@ ghost use Rattle.rtc.specs.Meaning.{readingOf};
 ghost use Rattle.local_time.specs.Meaning.{localTimeOf};
 use lookups::windows::dst_usable;
 use lookups::windows::last_active_dst_offset;
-use lookups::zones::active_time_zone;
+use lookups::zones::zone_offset;
 use model::MaybeI32;
 use record::TimeZoneStoreData;
 use rtc::UtcTime;
@@ -65,14 +65,6 @@ pub fn shown_by(utc: u64, zone: i32, window: MaybeI32) -> u64
     ensures { λ r. ⌜ r ≡ held (pos utc +ℤ ((zone +ℤ orZero (optionI32 window)) *ℤ pos 1000000)) ⌝ }
 {
     moved(utc, micros(zone, or_zero(window)))
-}
-
-// The offset of the active zone.
-fn zone_offset(lists: TimeZoneStoreData, utc: u64) -> i32
-    ensures { λ r. ⌜ r ≡ activeZone (listsOf lists) utc .offset ⌝ }
-{
-    let zone = active_time_zone(lists, utc);
-    zone.offset
 }
 
 // The offset of the last active window, 0 where none is active.

@@ -1,6 +1,8 @@
 // Lookups in the list of zones.
 ghost use mathlib.Core.Path.{_≡_};
 ghost use mathlib.Core.Option.{some, none};
+ghost use Rattle.model.specs.Lookups.{activeZone};
+ghost use Rattle.record.specs.Data.{listsOf};
 ghost use Rattle.lookups.specs.Shown.{shown, activeShown, zoneListed, zoneListedAt};
 use crate::ActiveTimeZone;
 use crate::TimeZoneListed;
@@ -46,6 +48,14 @@ pub fn active_time_zone(d: TimeZoneStoreData, now: u64) -> ActiveTimeZone
         }
     }
     no_zone()
+}
+
+// The offset of the active zone.
+pub fn zone_offset(d: TimeZoneStoreData, now: u64) -> i32
+    ensures { λ r. ⌜ r ≡ activeZone (listsOf d) now .offset ⌝ }
+{
+    let zone = active_time_zone(d, now);
+    zone.offset
 }
 
 // A zone that is listed.

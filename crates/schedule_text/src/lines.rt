@@ -3,22 +3,14 @@ ghost use mathlib.Core.Path.{_≡_};
 ghost use Prim.Native.Nat.{suc, _+_, _≤_};
 ghost use lib.ListN.{length, take};
 ghost use Rattle.model.specs.Bytes.{allBytes};
-ghost use Rattle.model.specs.Lookups.{activeZone};
 ghost use Rattle.model.specs.Schedule.{line};
 ghost use Rattle.word.specs.Place.{put};
 ghost use Rattle.record.specs.Data.{listsOf};
 use crate::numbers;
 use lookups::Walk;
+use lookups::zones::zone_offset;
 use record::TimeZoneStoreData;
 use word::least;
-
-// The offset of the active zone at a moment.
-fn zone_offset(lists: TimeZoneStoreData, moment: u64) -> i32
-    ensures { λ r. ⌜ r ≡ activeZone (listsOf lists) moment .offset ⌝ }
-{
-    let zone = lookups::zones::active_time_zone(lists, moment);
-    zone.offset
-}
 
 // Writes what a reader sees from a moment on: the zone's offset, the active window's and whether a window is usable.
 fn put_line(out: &mut [u8], at: usize, lists: TimeZoneStoreData, moment: u64) -> usize
