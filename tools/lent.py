@@ -250,27 +250,30 @@ class Proof:
             "  said r = exE 𝓤 _ (λ ws. snd∗ 𝓤 (sem 𝓤 H A (lasts val.ended tt (was, x .1) ws)) (fact 𝓤 (Said r)))\n",
         )
 
-    def put_return(self):
-        """what is left at the return, and that it meets the contract"""
+    def put_known(self):
+        """what is known of the result; answers the machine value of the return, its term, what it needs and the steps that give it"""
         known = f"(r : {self.result.name}) (vs : List Val) → Is {self.result.row} r vs → Is T.the-row {self.rec} (mach {self.rec} ∷ [])"
-        value, term, hyp, last = "u", "r", "", []
-        if self.shape == "answer":
-            value, term = f"({self.ans_value})", self.ans
-            hyp = f" → Is {self.answer.row} {self.ans} ({self.ans_value} ∷ [])"
-            last = [self.answer.owned(self.ans, "ans-is")]
-            self.put(
-                "  -- what is known of the fields of the result",
-                f"  rec-known : {known}",
-                f"  rec-known r vs is = SL.owed {self.result.laws} r vs is .0\n",
-                f"  ans-known : (r : {self.result.name}) (vs : List Val) → Is {self.result.row} r vs{hyp}",
-                f"  ans-known r vs is = SL.owed {self.result.laws} r vs is .1 .0\n",
-            )
-        elif self.shape == "replace":
-            value, term, last = "vunit", "tt", ["feqI ! (List Val) (vunit ∷ []) (vunit ∷ []) refl"]
+        if self.shape == "ask":
+            return "u", "r", "", []
+        if self.shape == "replace":
             self.put(
                 f"  rec-known : {known}",
                 f"  rec-known r vs is = subst (λ (ws : List Val). Is T.the-row r ws) ({self.record.tells} r vs is) is\n",
             )
+            return "vunit", "tt", "", ["feqI ! (List Val) (vunit ∷ []) (vunit ∷ []) refl"]
+        hyp = f" → Is {self.answer.row} {self.ans} ({self.ans_value} ∷ [])"
+        self.put(
+            "  -- what is known of the fields of the result",
+            f"  rec-known : {known}",
+            f"  rec-known r vs is = SL.owed {self.result.laws} r vs is .0\n",
+            f"  ans-known : (r : {self.result.name}) (vs : List Val) → Is {self.result.row} r vs{hyp}",
+            f"  ans-known r vs is = SL.owed {self.result.laws} r vs is .1 .0\n",
+        )
+        return f"({self.ans_value})", self.ans, hyp, [self.answer.owned(self.ans, "ans-is")]
+
+    def put_return(self):
+        """what is left at the return, and that it meets the contract"""
+        value, term, hyp, last = self.put_known()
         if self.lent:
             over, vars, ended = f"(r : {self.result.name})", "r", self.rec
             left = f"‵ (fobs γ (T.the-row .coded .code {self.rec})) ∷ ‵ (fbor κ (Body (mem T.the-row) b o γ)) ∷ ‵ (flft κ q) ∷ ‵ ftrue ∷ []"
