@@ -26,44 +26,66 @@
  *   - Where a call is taken, all its outputs are written. A value that may be missing has a mark beside it, 0 or 1, and is 0 where it is
  *     missing. What is copied stands at the front of its slice; the bytes past it stay as they were.
  *
- * Every function that takes an image refuses a slice that is none with 8: one shorter than TIMESYNC_IMAGE_SIZE, or with a mark, a code, a
- * limit or a count out of range. Only timesync_new takes a slice of any bytes. A slice longer than an image is fine, and the bytes past
- * the image stay as they were.
+ * Every function that takes an image refuses a slice that is none with 8: one shorter than TIMESYNC_IMAGE_SIZE, or one that does not begin
+ * with the magic, for instance a zeroed one on which timesync_new was not called. No other byte is tested. Each is read totally: a mark is
+ * set where it is not 0, a limit and a count are held at 8 and 16, a granularity above 4 stands for NoTime and a time source above 16 for
+ * None, and of a name at most 64 bytes are there. So bytes that were damaged behind the magic stand for some state, and the calls answer for
+ * that state; a walk over it still has at most 41 moments, and its record at most TIMESYNC_RECORD_MAX bytes. Only timesync_new takes a slice
+ * of any bytes. A slice longer than an image is fine, and the bytes past the image stay as they were.
  *
  * The image. Numbers are little endian, offsets in two's complement. The layout is given for tests and for debuggers: only the functions
  * below write an image, and timesync_new makes one. Keep it in RAM: flash holds the moment, the trusted time source and the record.
  *
  *     at  bytes  what
- *      0      1  whether there is a list store, 0 or 1
- *      1      1  zone limit, at most 8; 1 or more with a list store
- *      2      1  window limit, at most 16; 1 or more with a list store
- *      3      1  how many zones there are, at most the zone limit
- *      4      1  how many windows there are, at most the window limit
- *      5      1  whether the timer has seen anything, 0 or 1
- *      6      1  whether it saw a window active, 0 or 1
- *      7      1  whether it saw one usable, 0 or 1
- *      8      4  the zone's offset that it saw
- *     12      4  generation
- *     16      1  granularity, 0 to 4
- *     17      1  time source, 0 to 16
- *     18      1  whether the clock is set, 0 or 1
- *     19      1  whether there is a trusted time source, 0 or 1
- *     20      1  its fabric index
- *     21      1  0
- *     22      2  its endpoint
- *     24      8  UTC time, last set or last known
- *     32      8  UTC time that was persisted
- *     40      8  tick of the last setting
- *     48      8  node of the trusted time source
- *     56      8  period of the client
- *     64      8  its next retry
- *     72      8  tick of its last MissingTrustedTimeSource
- *     80      8  tick of its last TimeFailure
- *     88      1  whether there was a MissingTrustedTimeSource, 0 or 1
- *     89      1  whether there was a TimeFailure, 0 or 1
- *     90      6  not used
- *     96    640  8 zones, 80 bytes each, written as in a record; what is left of the 80 is not used
- *    736    384  16 windows, 24 bytes each, written as in a record; what is left of the 24 is not used
+ *      0      4  the magic: the bytes T M S 1
+ *      4      1  whether there is a list store; without one the table is not looked at
+ *      5      3  not used
+ *      8     40  the clock
+ *     48     40  the client
+ *     88      8  the timer
+ *     96   1040  the table: limits, generation and both lists
+ *
+ *   The clock, from 8 on
+ *      0      1  granularity
+ *      1      1  time source
+ *      2      1  whether the clock is set
+ *      3      1  whether there is a trusted time source
+ *      4      1  its fabric index
+ *      5      1  not used
+ *      6      2  its endpoint
+ *      8      8  UTC time, last set or last known
+ *     16      8  UTC time that was persisted
+ *     24      8  tick of the last setting
+ *     32      8  node of the trusted time source
+ *
+ *   The client, from 48 on
+ *      0      8  period
+ *      8      8  next retry
+ *     16      8  tick of the last MissingTrustedTimeSource
+ *     24      8  tick of the last TimeFailure
+ *     32      1  whether there was a MissingTrustedTimeSource
+ *     33      1  whether there was a TimeFailure
+ *     34      6  not used
+ *
+ *   The timer, from 88 on
+ *      0      1  whether it has seen anything
+ *      1      1  whether it saw a window active
+ *      2      1  whether it saw one usable
+ *      3      1  not used
+ *      4      4  the zone's offset that it saw
+ *
+ *   The table, from 96 on
+ *      0      1  zone limit
+ *      1      1  window limit
+ *      2      1  how many zones there are
+ *      3      1  how many windows there are
+ *      4      4  generation
+ *      8      8  not used
+ *     16    640  8 zones, 80 bytes each, written as in a record; what is left of the 80 is not used
+ *    656    384  16 windows, 24 bytes each, written as in a record; what is left of the 24 is not used
+ *
+ * A call on the clock, the client or the timer that is taken writes that part whole, its unused bytes as 0. A call on the lists writes counts,
+ * entries and the generation, and no other byte of the table.
  *
  * Requests and records
  *   section  a count in one byte, then so many entries and nothing else
@@ -76,6 +98,47 @@
  * one before it, each offset lies from -43200 to 50400, and no name is longer than 64 bytes. A list of windows is accepted where there are
  * no more than the window limit, only the last may be without an end, each starts after the start before it and not before the end before
  * it, and each starts before its own end.
+ *
+ * Stack. How many bytes of it a call takes on x86-64, its arguments on the stack and the return address among them: the most of many inputs
+ * at limits 8 and 16 with every entry in use, measured on a painted stack. A call that writes a record takes at most 2560, any other at
+ * most 768. The test that measures it fails above that, and above what stands here.
+ *
+ *  bytes  call
+ *      8  image_size
+ *     40  new
+ *    200  set_utc_time
+ *    184  set_trusted_time_source
+ *   2184  set_time_zone
+ *   2152  set_dst_offset
+ *    336  load_lists
+ *      8  reset_lists
+ *     40  load_clock
+ *      8  reset_clock
+ *    200  rtc_set_utc_time
+ *    200  rtc_set_utc_time_persist
+ *      8  utc_time_granularity
+ *      8  utc_time_source
+ *      8  trusted_time_source
+ *      8  utc_time
+ *    120  local_time
+ *      8  time_zone_count
+ *      8  dst_offset_count
+ *      8  time_zone_list_max_size
+ *      8  dst_offset_list_max_size
+ *      8  time_zone_database
+ *      8  generation
+ *      8  dst_table_empty
+ *     88  time_zone
+ *     24  dst_offset
+ *      8  dst_usable
+ *    136  active_time_zone
+ *      8  active_dst_offset
+ *     80  next_transition
+ *    752  walk
+ *   2088  record
+ *    408  look
+ *    312  attempt
+ *    200  source_changed
  */
 #ifndef TIMESYNC_H
 #define TIMESYNC_H
@@ -89,7 +152,7 @@ extern "C" {
 
 /* ---- Sizes, in bytes unless they say otherwise ---- */
 
-#define TIMESYNC_IMAGE_SIZE 1120 /* an image */
+#define TIMESYNC_IMAGE_SIZE 1136 /* an image */
 #define TIMESYNC_NAME_MAX 64     /* the longest name of a zone */
 #define TIMESYNC_RECORD_MAX 962  /* the longest record, at limits 8 and 16 */
 #define TIMESYNC_MOMENTS_MAX 328 /* the longest walk: 41 moments of 8 bytes */
@@ -99,7 +162,7 @@ extern "C" {
 /* ---- Answers ---- */
 
 #define TIMESYNC_OK 0                 /* the call was taken */
-#define TIMESYNC_UNREADABLE 1         /* a request, a number or a history that says nothing */
+#define TIMESYNC_UNREADABLE 1         /* a request or a number that says nothing */
 #define TIMESYNC_CONSTRAINT_ERROR 2   /* an entry breaks a rule, or an index is past the list */
 #define TIMESYNC_RESOURCE_EXHAUSTED 3 /* more entries than the limit */
 #define TIMESYNC_INVALID_COMMAND 4    /* fabric index 0 */
@@ -389,7 +452,8 @@ uint64_t timesync_next_transition(const uint8_t *image, size_t image_len, uint64
 
 /*
  * Walks from the moment start to the next transition until there is none. The moments are copied to the front of moments, 8 bytes each,
- * little endian and ascending, start first: *steps + 1 of them. There are at most zone limit + 2 * window limit - 1 steps.
+ * little endian and ascending, start first: *steps + 1 of them. Over lists that were accepted there are at most
+ * zone limit + 2 * window limit - 1 steps.
  * Refuses, in this order, with 8, 6 and 9 (TIMESYNC_MOMENTS_MAX bytes always suffice).
  */
 uint64_t timesync_walk(const uint8_t *image, size_t image_len, uint64_t start, uint8_t *moments, size_t moments_room, uint64_t *steps);
@@ -438,20 +502,6 @@ uint64_t timesync_attempt(uint8_t *image, size_t image_len, uint8_t answered, ui
  * Call it after each TIMESYNC_WAKE_CLIENT, and where an attempt is under way after that attempt's answer. No effects. Refuses with 8.
  */
 uint64_t timesync_source_changed(uint8_t *image, size_t image_len, uint64_t *wait, uint64_t *wait_us);
-
-/* ======== A whole history ======== */
-
-/*
- * Makes a list store of these limits, runs the calls of a history on it and walks from the moment start; no image is needed. A history is
- * calls one after the other: a kind (0 SetTimeZone, 1 SetDSTOffset, 2 load, 3 load without a record, 4 factory reset), and for the first
- * three a length in 4 bytes, little endian, and so many bytes. A call that the store refuses is part of the history, and no refusal of
- * this function.
- * The moments and *steps as with timesync_walk, the record and *used as with timesync_record, and the generation.
- * Refuses, in this order, with 8 (limits), 1 (bytes that are no history) and 9 (moments or out is too short).
- */
-uint64_t timesync_replay(size_t zone_limit, size_t window_limit, const uint8_t *history, size_t history_len, uint64_t start,
-                         uint8_t *moments, size_t moments_room, uint64_t *steps, uint8_t *out, size_t out_len, uint64_t *used,
-                         uint64_t *generation);
 
 #ifdef __cplusplus
 }

@@ -1,7 +1,7 @@
 #!/usr/bin/env python3
 """Changes a line of the Rust at a time, and looks whether `differ` notices.
 
-Copies this folder to target/bite, puts the given files there, and for each change below writes the
+Copies this folder and the crate `timesync` to target/bite, puts the given files there, and for each change below writes the
 changed file into the copy, builds it and runs `differ` at a small size. A change is noticed where differ
 ends with status 1 (a difference, or a panic of the changed Rust). Changes that no sequence of calls can
 show are marked as such, with the reason. Status 1 where another one is not noticed.
@@ -177,6 +177,8 @@ def main():
     sequences = words[words.index("--sequences") + 1] if "--sequences" in words else "3000"
     COPY.parent.mkdir(parents=True, exist_ok=True)
     shutil.copytree(HERE, COPY, ignore=shutil.ignore_patterns("target"), dirs_exist_ok=True)
+    # beside it, where `differ` looks for the crate
+    shutil.copytree(HERE.parent / "rust", COPY.parent / "rust", ignore=shutil.ignore_patterns("target", "bench"), dirs_exist_ok=True)
     texts = {name: (GIVEN / path).read_text() for name, (path, _) in FILES.items()}
     environment = dict(os.environ, CARGO_TARGET_DIR=str(HERE / "target/bite/build"))
     environment.setdefault("TIMESYNC_LIB_DIR", str(HERE.parent / "target/staticlib"))

@@ -1,7 +1,13 @@
-//! Links `libcontroller.a` from the directory that `TIMESYNC_LIB_DIR` names, or else from `../target/staticlib`.
+//! Links `libcontroller.a`, and with the feature `replay` `libreplay.a` too, from the directory that `TIMESYNC_LIB_DIR` names, or else from
+//! `../target/staticlib`.
 
 use std::env;
-use std::path::PathBuf;
+use std::path::{Path, PathBuf};
+
+fn link(dir: &Path, name: &str) {
+    println!("cargo:rerun-if-changed={}", dir.join(format!("lib{name}.a")).display());
+    println!("cargo:rustc-link-lib=static={name}");
+}
 
 fn main() {
     println!("cargo:rerun-if-env-changed=TIMESYNC_LIB_DIR");
@@ -10,7 +16,9 @@ fn main() {
         Some(dir) => PathBuf::from(dir),
         None => PathBuf::from(env::var_os("CARGO_MANIFEST_DIR").unwrap_or_default()).join("../target/staticlib"),
     };
-    println!("cargo:rerun-if-changed={}", dir.join("libcontroller.a").display());
     println!("cargo:rustc-link-search=native={}", dir.display());
-    println!("cargo:rustc-link-lib=static=controller");
+    link(&dir, "controller");
+    if env::var_os("CARGO_FEATURE_REPLAY").is_some() {
+        link(&dir, "replay");
+    }
 }

@@ -1,11 +1,13 @@
 #!/bin/sh
-# Checks the header and the crate against libcontroller.a, which must be there already: in the directory that TIMESYNC_LIB_DIR names, or
-# else in ../target/staticlib. Prints a line for each part, and ends with a status other than 0 where one fails.
+# Checks the headers and the crate against libcontroller.a and libreplay.a, which must be there already: in the directory that
+# TIMESYNC_LIB_DIR names, or else in ../target/staticlib. Prints a line for each part and the stack that each call takes, and ends with a
+# status other than 0 where one fails.
 cd "$(dirname "$0")" || exit 2
 lib=${TIMESYNC_LIB_DIR:-$(pwd)/../target/staticlib}
 include=$(pwd)/../include
 CC=${CC:-cc}
 CXX=${CXX:-c++}
+c99="-std=c99 -Wall -Wextra -Werror -pedantic"
 work=$(mktemp -d) || exit 2
 trap 'rm -rf "$work"' EXIT
 export TIMESYNC_LIB_DIR="$lib"
@@ -31,16 +33,55 @@ run_c() {
     diff "$work/due" "$work/said"
 }
 
-if [ ! -f "$lib/libcontroller.a" ]; then
-    echo "FAILED  libcontroller.a is not in $lib"
-    exit 1
-fi
-part "header, C99" "$CC" -std=c99 -Wall -Wextra -Werror -pedantic -fsyntax-only -x c "$include/timesync.h"
-if command -v "$CXX" >/dev/null; then
-    part "header, C++" "$CXX" -std=c++11 -Wall -Wextra -Werror -pedantic -fsyntax-only -x c++ "$include/timesync.h"
-fi
-part "C program, compiled" "$CC" -std=c99 -Wall -Wextra -Werror -pedantic -O1 -I "$include" tests/c/main.c "$lib/libcontroller.a" -o "$work/main"
+# The names that an archive exports, without their prefix
+exported() {
+    nm -g --defined-only "$1" | sed -n 's/.* T timesync_//p' | sort
+}
+
+# libreplay.a has the replay alone, and firmware does not carry it
+one_replay() {
+    [ "$(exported "$lib/libreplay.a")" = replay ] && ! exported "$lib/libcontroller.a" | grep -x replay
+}
+
+run_stack() {
+    "$work/stack" >"$work/stack.txt"
+}
+
+# Every entry point was measured
+measured_all() {
+    { exported "$lib/libcontroller.a"; exported "$lib/libreplay.a"; } | sort >"$work/due"
+    sed -n 's/^ *[0-9][0-9]*  \([a-z_]*\).*/\1/p' "$work/stack.txt" | sort | diff "$work/due" -
+}
+
+# No call takes more stack than the header says of it, and the header says it of every call; of the replay it says nothing
+told_stack() {
+    sed -n 's/^ \* *\([0-9][0-9]*\)  \([a-z_]*\)$/\1 \2/p' "$include/timesync.h" >"$work/told"
+    awk 'FILENAME == ARGV[1] { told[$2] = $1; next }
+         $2 != "replay" && !($2 in told) { print $2 ": the header says nothing, it takes " $1; bad = 1 }
+         $2 in told && $1 > told[$2] { print $2 ": the header says " told[$2] ", it takes " $1; bad = 1 }
+         END { exit bad }' "$work/told" "$work/stack.txt"
+}
+
+for archive in libcontroller.a libreplay.a; do
+    if [ ! -f "$lib/$archive" ]; then
+        echo "FAILED  $archive is not in $lib"
+        exit 1
+    fi
+done
+part "the replay, in an archive of its own" one_replay
+for header in timesync.h timesync_replay.h; do
+    part "$header, C99" "$CC" $c99 -fsyntax-only -x c "$include/$header"
+    if command -v "$CXX" >/dev/null; then
+        part "$header, C++" "$CXX" -std=c++11 -Wall -Wextra -Werror -pedantic -fsyntax-only -x c++ "$include/$header"
+    fi
+done
+part "C program, compiled" "$CC" $c99 -O1 -I "$include" tests/c/main.c "$lib/libcontroller.a" -o "$work/main"
 part "C program, run" run_c
-part "crate, built" cargo build --offline --quiet
-part "crate, tests" cargo test --offline --quiet
+part "stack, compiled" "$CC" $c99 -O1 -I "$include" tests/c/stack.c "$lib/libcontroller.a" "$lib/libreplay.a" -Wl,-z,now -o "$work/stack"
+part "stack of each call, within its bound" run_stack
+sed 's/^/        /' "$work/stack.txt"
+part "stack of every call" measured_all
+part "stack, as the header says" told_stack
+part "crate, built as firmware has it" cargo build --offline --quiet
+part "crate, tests" cargo test --offline --quiet --features replay
 exit $failed

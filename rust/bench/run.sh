@@ -1,6 +1,7 @@
 #!/bin/sh
-# Measures every call of libcontroller.a and of the Rust it was ported from, and prints the table in Markdown. The archive must be there
-# already: in the directory that TIMESYNC_LIB_DIR names, or else in ../../target/staticlib. Needs cargo and valgrind.
+# Measures every call of libcontroller.a and of the Rust it was ported from, and prints the tables in Markdown: what the calls cost, and how
+# large the code is. The archive must be there already: in the directory that TIMESYNC_LIB_DIR names, or else in ../../target/staticlib. Needs
+# cargo, valgrind, size and nm.
 set -e
 cd "$(dirname "$0")"
 TIMESYNC_LIB_DIR=${TIMESYNC_LIB_DIR:-$(pwd)/../../target/staticlib}
@@ -35,3 +36,4 @@ if [ -e "$work/dump.$((n + 1))" ]; then
 fi
 
 "$bench" table "$work/times" "$work/counts"
+./code.sh

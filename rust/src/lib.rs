@@ -1,6 +1,7 @@
 //! Clock, time-zone lists, timer and client of a Matter node, over a proved static library.
 //!
-//! All state is one image of [`IMAGE_SIZE`] bytes. A [`Controller`] owns it or holds it in lent bytes, and shows it as
+//! All state is one image of [`IMAGE_SIZE`] bytes, which begins with its magic; every other byte of it is read totally, so bytes that were
+//! damaged behind the magic stand for some state. A [`Controller`] owns it or holds it in lent bytes, and shows it as
 //!
 //! - [`Rtc`]: the clock,
 //! - [`TimeZoneStore`]: the lists of zones and windows,
@@ -9,7 +10,8 @@
 //!
 //! Nothing here waits, stores or sends: a call that may change the image returns an [`Outcome`], which has the answer beside the
 //! [`Effects`] that the caller is to carry out, in order. Moments are microseconds since the Matter epoch, ticks microseconds of a
-//! monotonic counter. [`entry`] has every function of the library as it is at C.
+//! monotonic counter. [`entry`] has every function of the library as it is at C. The feature `replay` adds whole histories on a new list
+//! store, out of an archive of its own; firmware does without it.
 //!
 //! ```no_run
 //! use timesync::{Controller, ListStore};
@@ -39,6 +41,7 @@ mod controller;
 mod handler;
 mod numbers;
 mod outcome;
+#[cfg(feature = "replay")]
 mod replay;
 mod rtc;
 mod store;
@@ -48,12 +51,13 @@ pub use controller::{Controller, ListStore};
 pub use handler::{DSTOffsetEntry, Look, Sleep, TimeSyncHandler, TimeZoneEntry, TimeZoneStatus};
 pub use numbers::{Attribute, Effect, Event, Refusal, TimeGranularity, TimeSource};
 pub use outcome::{Effects, Outcome};
+#[cfg(feature = "replay")]
 pub use replay::{replay, Replayed};
 pub use rtc::{Rtc, TrustedTimeSource, UtcTime};
 pub use store::{Name, TimeZoneStore, Walk};
 
 /// How many bytes an image has.
-pub const IMAGE_SIZE: usize = 1120;
+pub const IMAGE_SIZE: usize = 1136;
 
 /// The longest name of a zone, in bytes.
 pub const TIME_ZONE_NAME_MAX: usize = 64;

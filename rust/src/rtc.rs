@@ -33,7 +33,7 @@ impl UtcTime {
 /// The trusted time source: the fabric that set it, a node of that fabric and an endpoint of the node.
 #[derive(Debug, Clone, Copy, PartialEq, Eq, Hash)]
 pub struct TrustedTimeSource {
-    /// The fabric's index. A load with 0 is refused, so an image has none of 0.
+    /// The fabric's index. A load with 0 is refused, so no call makes one of 0.
     pub fab_idx: u8,
     /// The node.
     pub node_id: u64,

@@ -2,6 +2,7 @@
 
 mod common;
 
+use common::reference::image::{GENERATION, IMAGE_SIZE, WINDOW_COUNT};
 use common::{busy, made, windows, zones, Call, Lent, Library, DAY};
 use timesync::entry;
 
@@ -17,9 +18,9 @@ fn number(image: &[u8], room: usize, call: Call) -> u64 {
     returned & 0xFF
 }
 
-fn no_image() -> Vec<u8> {
-    let mut image = busy();
-    image[16] = 5;
+/// An image that has lost its magic.
+fn no_image(mut image: Vec<u8>) -> Vec<u8> {
+    image[0] ^= 1;
     image
 }
 
@@ -28,130 +29,37 @@ fn unreadable() {
     let image = busy();
     let good = zones(&[(0, 0, Some("UTC"))]);
     for cut in 0..good.len() {
-        assert_eq!(
-            number(
-                &image,
-                962,
-                Call::SetTimeZone {
-                    request: good[..cut].to_vec()
-                }
-            ),
-            1
-        );
+        assert_eq!(number(&image, 962, Call::SetTimeZone(good[..cut].to_vec())), 1);
     }
-    assert_eq!(
-        number(
-            &image,
-            962,
-            Call::SetTimeZone {
-                request: [good.clone(), vec![0]].concat()
-            }
-        ),
-        1
-    );
+    assert_eq!(number(&image, 962, Call::SetTimeZone([good.clone(), vec![0]].concat())), 1);
     let mut marked = zones(&[(0, 0, None)]);
     marked[13] = 2;
-    assert_eq!(number(&image, 962, Call::SetTimeZone { request: marked }), 1);
+    assert_eq!(number(&image, 962, Call::SetTimeZone(marked)), 1);
     // in the middle of three entries
     for mark in [2, 255] {
         let mut marked = zones(&[(0, 0, None), (0, 1, None), (0, 2, None)]);
         marked[26] = mark;
-        assert_eq!(number(&image, 962, Call::SetTimeZone { request: marked }), 1);
+        assert_eq!(number(&image, 962, Call::SetTimeZone(marked)), 1);
         let mut marked = windows(&[(0, 1, None), (0, 2, None), (0, 3, None)]);
         marked[26] = mark;
-        assert_eq!(number(&image, 962, Call::SetDstOffset { request: marked }), 1);
+        assert_eq!(number(&image, 962, Call::SetDstOffset(marked)), 1);
     }
     let mut spoilt = good;
     let last = spoilt.len() - 1;
     spoilt[last] = 0xFF;
-    assert_eq!(number(&image, 962, Call::SetTimeZone { request: spoilt }), 1);
-    assert_eq!(number(&image, 962, Call::SetDstOffset { request: vec![1] }), 1);
-    assert_eq!(
-        number(
-            &image,
-            962,
-            Call::SetUtcTime {
-                utc: 1,
-                granularity: 5,
-                has_source: 0,
-                source: 0,
-                tick: 1
-            }
-        ),
-        1
-    );
-    assert_eq!(
-        number(
-            &image,
-            962,
-            Call::SetUtcTime {
-                utc: 1,
-                granularity: 4,
-                has_source: 1,
-                source: 17,
-                tick: 1
-            }
-        ),
-        1
-    );
-    assert_eq!(
-        number(
-            &image,
-            962,
-            Call::SetUtcTime {
-                utc: 1,
-                granularity: 4,
-                has_source: 0,
-                source: 17,
-                tick: 1
-            }
-        ),
-        0
-    );
-    assert_eq!(
-        number(
-            &image,
-            962,
-            Call::RtcSet {
-                utc: 1,
-                granularity: 5,
-                source: 0,
-                tick: 1
-            }
-        ),
-        1
-    );
-    assert_eq!(
-        number(
-            &image,
-            962,
-            Call::RtcSetPersist {
-                utc: 1,
-                granularity: 0,
-                source: 17,
-                tick: 1
-            }
-        ),
-        1
-    );
+    assert_eq!(number(&image, 962, Call::SetTimeZone(spoilt)), 1);
+    assert_eq!(number(&image, 962, Call::SetDstOffset(vec![1])), 1);
+    assert_eq!(number(&image, 962, Call::SetUtcTime(1, 5, 0, 0, 1)), 1);
+    assert_eq!(number(&image, 962, Call::SetUtcTime(1, 4, 1, 17, 1)), 1);
+    assert_eq!(number(&image, 962, Call::SetUtcTime(1, 4, 0, 17, 1)), 0);
+    assert_eq!(number(&image, 962, Call::RtcSet(1, 5, 0, 1)), 1);
+    assert_eq!(number(&image, 962, Call::RtcSetPersist(1, 0, 17, 1)), 1);
 }
 
 #[test]
 fn numbers_out_of_range() {
     let image = busy();
-    let set = |granularity, source| {
-        number(
-            &image,
-            0,
-            Call::SetUtcTime {
-                utc: 1,
-                granularity,
-                has_source: 1,
-                source,
-                tick: 1,
-            },
-        )
-    };
+    let set = |granularity, source| number(&image, 0, Call::SetUtcTime(1, granularity, 1, source, 1));
     // granularities end at 4 and time sources at 16
     assert_eq!(set(255, 0), 1);
     assert_eq!((set(4, 17), set(4, 255)), (1, 1));
@@ -165,8 +73,8 @@ fn indexes_past_every_list() {
     // cut to 32 bits the second would be that of the first entry
     let image = busy();
     for index in [65_535, 1 << 32] {
-        assert_eq!(number(&image, 962, Call::TimeZone { index }), 2);
-        assert_eq!(number(&image, 962, Call::DstOffset { index }), 2);
+        assert_eq!(number(&image, 962, Call::TimeZone(index)), 2);
+        assert_eq!(number(&image, 962, Call::DstOffset(index)), 2);
     }
 }
 
@@ -185,7 +93,7 @@ fn constraint_error() {
         &[(0, 0, Some(&long))],
     ];
     for list in bad {
-        assert_eq!(number(&image, 962, Call::SetTimeZone { request: zones(list) }), 2, "{list:?}");
+        assert_eq!(number(&image, 962, Call::SetTimeZone(zones(list))), 2, "{list:?}");
     }
     let good: &[&[(i32, u64, Option<&str>)]] = &[
         &[],
@@ -194,14 +102,14 @@ fn constraint_error() {
         &[(0, 0, Some(&longest)), (0, 1, None)],
     ];
     for list in good {
-        assert_eq!(number(&image, 962, Call::SetTimeZone { request: zones(list) }), 0, "{list:?}");
+        assert_eq!(number(&image, 962, Call::SetTimeZone(zones(list))), 0, "{list:?}");
     }
-    assert_eq!(number(&image, 962, Call::TimeZone { index: 3 }), 2);
-    assert_eq!(number(&image, 962, Call::DstOffset { index: 2 }), 2);
+    assert_eq!(number(&image, 962, Call::TimeZone(3)), 2);
+    assert_eq!(number(&image, 962, Call::DstOffset(2)), 2);
     let empty = made(Some((1, 1)));
-    assert_eq!(number(&empty, 0, Call::TimeZone { index: 0 }), 0);
-    assert_eq!(number(&empty, 0, Call::TimeZone { index: 1 }), 2);
-    assert_eq!(number(&empty, 0, Call::DstOffset { index: 0 }), 2);
+    assert_eq!(number(&empty, 0, Call::TimeZone(0)), 0);
+    assert_eq!(number(&empty, 0, Call::TimeZone(1)), 2);
+    assert_eq!(number(&empty, 0, Call::DstOffset(0)), 2);
 }
 
 /// A refused SetDSTOffset: the windows are gone, a change is counted, and the timer is to be woken.
@@ -209,11 +117,11 @@ fn windows_refused(list: &[(i32, u64, Option<u64>)], cause: u64) {
     let image = busy();
     for room in [0, 962] {
         let mut lent = Lent::new(&image, room);
-        let returned = Library::new().held(&Call::SetDstOffset { request: windows(list) }, &mut lent);
+        let returned = Library::new().held(&Call::SetDstOffset(windows(list)), &mut lent);
         assert_eq!(returned, 0x3000 | cause, "{list:?}");
         let mut expected = image.clone();
-        expected[4] = 0;
-        expected[12] += 1;
+        expected[WINDOW_COUNT] = 0;
+        expected[GENERATION] += 1;
         assert!(lent.image == expected, "{list:?}");
         assert_eq!((lent.out, lent.n), (Lent::new(&image, room).out, Lent::new(&image, room).n));
     }
@@ -233,68 +141,50 @@ fn windows_that_break_a_rule() {
 fn resource_exhausted() {
     let image = busy();
     let four = [(0, 0, None), (0, 1, None), (0, 2, None), (0, 3, None)];
-    assert_eq!(number(&image, 962, Call::SetTimeZone { request: zones(&four) }), 3);
+    assert_eq!(number(&image, 962, Call::SetTimeZone(zones(&four))), 3);
     // the entry past the limit is not asked for its rule
     let four = [(0, 0, None), (0, 1, None), (0, 2, None), (99999, 3, None)];
-    assert_eq!(number(&image, 962, Call::SetTimeZone { request: zones(&four) }), 3);
+    assert_eq!(number(&image, 962, Call::SetTimeZone(zones(&four))), 3);
     // an entry before it is
     let four = [(0, 0, None), (99999, 1, None), (0, 2, None), (0, 3, None)];
-    assert_eq!(number(&image, 962, Call::SetTimeZone { request: zones(&four) }), 2);
+    assert_eq!(number(&image, 962, Call::SetTimeZone(zones(&four))), 2);
 }
 
 #[test]
 fn no_list_store() {
     let none = prepared_without();
-    assert_eq!(number(&none, 962, Call::SetTimeZone { request: vec![] }), 5);
-    assert_eq!(number(&none, 962, Call::SetDstOffset { request: vec![9, 9] }), 5);
+    assert_eq!(number(&none, 962, Call::SetTimeZone(vec![])), 5);
+    assert_eq!(number(&none, 962, Call::SetDstOffset(vec![9, 9])), 5);
     for call in [
-        Call::LocalTime { tick: 5 },
+        Call::LocalTime(5),
         Call::TimeZoneCount,
         Call::DstOffsetCount,
         Call::TimeZoneListMaxSize,
         Call::DstOffsetListMaxSize,
         Call::TimeZoneDatabase,
         Call::Generation,
-        Call::DstUsable { utc: 1 },
+        Call::DstUsable(1),
         Call::DstTableEmpty,
-        Call::TimeZone { index: 99 },
-        Call::DstOffset { index: 99 },
-        Call::ActiveTimeZone { utc: 1 },
-        Call::ActiveDstOffset { utc: 1 },
-        Call::NextTransition { utc: 1 },
-        Call::Walk { start: 1 },
+        Call::TimeZone(99),
+        Call::DstOffset(99),
+        Call::ActiveTimeZone(1),
+        Call::ActiveDstOffset(1),
+        Call::NextTransition(1),
+        Call::Walk(1),
         Call::Record,
     ] {
         assert_eq!(number(&none, 0, call.clone()), 6, "{call:?}");
     }
     // an unreliable clock shows null before anybody asks for the lists
-    assert_eq!(number(&made(None), 0, Call::LocalTime { tick: 5 }), 0);
+    assert_eq!(number(&made(None), 0, Call::LocalTime(5)), 0);
     // load and reset of the lists have nothing to do
-    assert_eq!(
-        number(
-            &none,
-            0,
-            Call::LoadLists {
-                there: 1,
-                stored: vec![255]
-            }
-        ),
-        0
-    );
+    assert_eq!(number(&none, 0, Call::LoadLists(1, vec![255])), 0);
     assert_eq!(number(&none, 0, Call::ResetLists), 0);
-    assert_eq!(number(&none, 0, Call::Look { tick: 1 }), 0);
+    assert_eq!(number(&none, 0, Call::Look(1)), 0);
 }
 
 fn prepared_without() -> Vec<u8> {
-    common::prepared(
-        made(None),
-        &[Call::RtcSet {
-            utc: DAY,
-            granularity: 4,
-            source: 2,
-            tick: 0,
-        }],
-    )
+    common::prepared(made(None), &[Call::RtcSet(DAY, 4, 2, 0)])
 }
 
 #[test]
@@ -309,29 +199,10 @@ fn bad_record() {
         [zones(&[]), windows(&[(0, 1, Some(2)), (0, 2, Some(3)), (0, 3, None)])].concat(),
         [zones(&[(0, 0, None), (0, 1, None), (0, 2, None), (0, 3, None)]), windows(&[])].concat(),
     ] {
-        assert_eq!(
-            number(
-                &image,
-                0,
-                Call::LoadLists {
-                    there: 1,
-                    stored: stored.clone()
-                }
-            ),
-            7,
-            "{stored:?}"
-        );
-        assert_eq!(number(&image, 0, Call::LoadLists { there: 0, stored }), 0);
+        assert_eq!(number(&image, 0, Call::LoadLists(1, stored.clone())), 7, "{stored:?}");
+        assert_eq!(number(&image, 0, Call::LoadLists(0, stored)), 0);
     }
-    let load = |has_source, fab_idx| Call::LoadClock {
-        build: 1,
-        has_moment: 1,
-        moment: 2,
-        has_source,
-        fab_idx,
-        node_id: 3,
-        endpoint: 4,
-    };
+    let load = |has_source, fab_idx| Call::LoadClock(1, 1, 2, has_source, fab_idx, 3, 4);
     assert_eq!(number(&image, 0, load(1, 0)), 7);
     assert_eq!(number(&image, 0, load(0, 0)), 0);
     assert_eq!(number(&image, 0, load(1, 1)), 0);
@@ -349,23 +220,23 @@ fn bad_limits() {
         (257, 1),
         (1, 1 << 32 | 1),
     ] {
-        let mut image = vec![0x77; 1120];
+        let mut image = vec![0x77; IMAGE_SIZE];
         assert_eq!(entry::new(&mut image, 1, zone_limit, window_limit, 1, 1), 8);
         assert!(image.iter().all(|b| *b == 0x77));
         // without a list store nobody looks at the limits
         assert_eq!(entry::new(&mut image, 0, zone_limit, window_limit, 1, 1), 0);
-        assert_eq!(image[..5], [0; 5]);
+        assert_eq!((&image[..5], &image[96..98]), (&b"TMS1\0"[..], &[0, 0][..]));
     }
-    for len in [0, 1, 1119] {
+    for len in [0, 1, 1120, 1135] {
         let mut short = vec![0x77; len];
         assert_eq!(entry::new(&mut short, 1, 1, 1, 1, 1), 8);
         assert_eq!(entry::new(&mut short, 0, 1, 1, 1, 1), 8);
         assert!(short.iter().all(|b| *b == 0x77));
     }
-    let mut long = vec![0x77; 1130];
+    let mut long = vec![0x77; IMAGE_SIZE + 10];
     assert_eq!(entry::new(&mut long, 255, 8, 16, 1, 1), 0);
-    assert_eq!(long[1120..], [0x77; 10]);
-    let mut expected = vec![0x77; 1130];
+    assert_eq!(long[IMAGE_SIZE..], [0x77; 10]);
+    let mut expected = vec![0x77; IMAGE_SIZE + 10];
     assert_eq!(common::reference::new(&mut expected, 255, 8, 16, 1, 1), 0);
     assert!(long == expected);
 }
@@ -373,21 +244,21 @@ fn bad_limits() {
 #[test]
 fn no_space() {
     let image = busy();
-    assert_eq!(number(&image, 12, Call::TimeZone { index: 0 }), 9);
-    assert_eq!(number(&image, 13, Call::TimeZone { index: 0 }), 0);
-    assert_eq!(number(&image, 0, Call::TimeZone { index: 1 }), 0);
-    assert_eq!(number(&image, 0, Call::TimeZone { index: 2 }), 0);
-    assert_eq!(number(&image, 12, Call::ActiveTimeZone { utc: 0 }), 9);
+    assert_eq!(number(&image, 12, Call::TimeZone(0)), 9);
+    assert_eq!(number(&image, 13, Call::TimeZone(0)), 0);
+    assert_eq!(number(&image, 0, Call::TimeZone(1)), 0);
+    assert_eq!(number(&image, 0, Call::TimeZone(2)), 0);
+    assert_eq!(number(&image, 12, Call::ActiveTimeZone(0)), 9);
     // starts and ends after 0: 10, 20, 30, 40, 60 days
-    assert_eq!(number(&image, 47, Call::Walk { start: 0 }), 9);
-    assert_eq!(number(&image, 48, Call::Walk { start: 0 }), 0);
+    assert_eq!(number(&image, 47, Call::Walk(0)), 9);
+    assert_eq!(number(&image, 48, Call::Walk(0)), 0);
     // a section of 1 + 27 + 13 + 14 bytes, and one of 1 + 21 + 13
     assert_eq!(number(&image, 89, Call::Record), 9);
     assert_eq!(number(&image, 90, Call::Record), 0);
-    assert_eq!(number(&image, 1, Call::SetTimeZone { request: zones(&[]) }), 9);
-    assert_eq!(number(&image, 2, Call::SetTimeZone { request: zones(&[]) }), 0);
-    assert_eq!(number(&image, 55, Call::SetDstOffset { request: windows(&[]) }), 9);
-    assert_eq!(number(&image, 56, Call::SetDstOffset { request: windows(&[]) }), 0);
+    assert_eq!(number(&image, 1, Call::SetTimeZone(zones(&[]))), 9);
+    assert_eq!(number(&image, 2, Call::SetTimeZone(zones(&[]))), 0);
+    assert_eq!(number(&image, 55, Call::SetDstOffset(windows(&[]))), 9);
+    assert_eq!(number(&image, 56, Call::SetDstOffset(windows(&[]))), 0);
 }
 
 /// A section whose last byte is spoilt.
@@ -400,7 +271,7 @@ fn spoilt(mut request: Vec<u8>, byte: u8) -> Vec<u8> {
 fn read_whole_before_the_rules() {
     // limits 3 and 2
     let image = busy();
-    let set = |request| number(&image, 962, Call::SetTimeZone { request });
+    let set = |request| number(&image, 962, Call::SetTimeZone(request));
     let four = zones(&[(0, 0, None), (0, 1, None), (0, 2, None), (0, 3, Some("n"))]);
     assert_eq!((set(four.clone()), set(spoilt(four, 0xFF))), (3, 1));
     let long = "n".repeat(65);
@@ -409,7 +280,7 @@ fn read_whole_before_the_rules() {
     // the windows stay, which a refusal by the limit would empty
     let three = windows(&[(0, 1, Some(2)), (0, 3, Some(4)), (0, 5, None)]);
     let request = spoilt(three, 2);
-    assert_eq!(number(&image, 962, Call::SetDstOffset { request }), 1);
+    assert_eq!(number(&image, 962, Call::SetDstOffset(request)), 1);
 }
 
 #[test]
@@ -436,148 +307,44 @@ fn the_longest_request() {
 
 #[test]
 fn the_first_of_two() {
-    let bad = no_image();
+    let bad = no_image(busy());
     let none = prepared_without();
     let image = busy();
     // 4 before 8
-    assert_eq!(
-        number(
-            &bad,
-            0,
-            Call::SetTrustedTimeSource {
-                fab_idx: 0,
-                named: 1,
-                node_id: 1,
-                endpoint: 1
-            }
-        ),
-        4
-    );
-    assert_eq!(
-        number(
-            &[],
-            0,
-            Call::SetTrustedTimeSource {
-                fab_idx: 0,
-                named: 0,
-                node_id: 1,
-                endpoint: 1
-            }
-        ),
-        4
-    );
-    assert_eq!(
-        number(
-            &bad,
-            0,
-            Call::SetTrustedTimeSource {
-                fab_idx: 1,
-                named: 1,
-                node_id: 1,
-                endpoint: 1
-            }
-        ),
-        8
-    );
+    assert_eq!(number(&bad, 0, Call::SetTrustedTimeSource(0, 1, 1, 1)), 4);
+    assert_eq!(number(&[], 0, Call::SetTrustedTimeSource(0, 0, 1, 1)), 4);
+    assert_eq!(number(&bad, 0, Call::SetTrustedTimeSource(1, 1, 1, 1)), 8);
     // 8 before 1, 5, 6, 7, 9
-    assert_eq!(number(&bad, 0, Call::SetTimeZone { request: vec![] }), 8);
-    assert_eq!(
-        number(
-            &bad,
-            0,
-            Call::SetUtcTime {
-                utc: 0,
-                granularity: 9,
-                has_source: 0,
-                source: 0,
-                tick: 0
-            }
-        ),
-        8
-    );
-    assert_eq!(number(&bad, 0, Call::LoadLists { there: 1, stored: vec![] }), 8);
-    assert_eq!(number(&bad, 0, Call::LoadLists { there: 0, stored: vec![] }), 8);
+    assert_eq!(number(&bad, 0, Call::SetTimeZone(vec![])), 8);
+    assert_eq!(number(&bad, 0, Call::SetUtcTime(0, 9, 0, 0, 0)), 8);
+    assert_eq!(number(&bad, 0, Call::LoadLists(1, vec![])), 8);
+    assert_eq!(number(&bad, 0, Call::LoadLists(0, vec![])), 8);
     assert_eq!(number(&bad, 0, Call::Record), 8);
-    let mut both = none.clone();
-    both[89] = 2;
-    assert_eq!(number(&both, 0, Call::SetDstOffset { request: vec![] }), 8);
-    assert_eq!(number(&both, 0, Call::Walk { start: 0 }), 8);
+    let both = no_image(none.clone());
+    assert_eq!(number(&both, 0, Call::SetDstOffset(vec![])), 8);
+    assert_eq!(number(&both, 0, Call::Walk(0)), 8);
     // 5 before 1, 6 before 2 and 9
-    assert_eq!(number(&none, 0, Call::SetTimeZone { request: vec![] }), 5);
-    assert_eq!(number(&none, 0, Call::TimeZone { index: usize::MAX }), 6);
+    assert_eq!(number(&none, 0, Call::SetTimeZone(vec![])), 5);
+    assert_eq!(number(&none, 0, Call::TimeZone(usize::MAX)), 6);
     assert_eq!(number(&none, 0, Call::Record), 6);
     // 1 before 2: the second entry cannot be read, the first breaks a rule
     let mut request = zones(&[(0, 5, None), (0, 6, None)]);
     let last = request.len() - 1;
     request[last] = 2;
-    assert_eq!(number(&image, 0, Call::SetTimeZone { request }), 1);
+    assert_eq!(number(&image, 0, Call::SetTimeZone(request)), 1);
     // 2 before 9, 3 before 9
-    assert_eq!(
-        number(
-            &image,
-            0,
-            Call::SetTimeZone {
-                request: zones(&[(0, 5, None)])
-            }
-        ),
-        2
-    );
-    assert_eq!(number(&image, 0, Call::TimeZone { index: 5 }), 2);
+    assert_eq!(number(&image, 0, Call::SetTimeZone(zones(&[(0, 5, None)]))), 2);
+    assert_eq!(number(&image, 0, Call::TimeZone(5)), 2);
     let four = [(0, 0, None), (0, 1, None), (0, 2, None), (0, 3, None)];
-    assert_eq!(number(&image, 0, Call::SetTimeZone { request: zones(&four) }), 3);
+    assert_eq!(number(&image, 0, Call::SetTimeZone(zones(&four))), 3);
 }
 
 #[test]
 fn a_look_without_room() {
     // the zone changes back to a named one, whose name has no room: the timer has not looked
     let image = busy();
-    let at_zone_two = common::prepared(image, &[Call::Look { tick: 1000 + 20 * DAY }]);
-    let back = common::prepared(
-        at_zone_two,
-        &[Call::RtcSet {
-            utc: DAY,
-            granularity: 4,
-            source: 2,
-            tick: 0,
-        }],
-    );
-    assert_eq!(number(&back, 12, Call::Look { tick: 0 }), 9);
-    assert_eq!(number(&back, 13, Call::Look { tick: 0 }), 0);
-}
-
-#[test]
-fn replays() {
-    let (mut moments, mut out) = ([0x11; 328], [0x22; 962]);
-    let (mut steps, mut used, mut generation) = (3, 4, 5);
-    let mut run = |limits: (usize, usize), history: &[u8], room: usize, record: usize| {
-        let returned = entry::replay(
-            limits.0,
-            limits.1,
-            history,
-            0,
-            &mut moments[..room],
-            &mut steps,
-            &mut out[..record],
-            &mut used,
-            &mut generation,
-        );
-        if returned != 0 {
-            assert_eq!((steps, used, generation), (3, 4, 5));
-            assert!(moments.iter().all(|b| *b == 0x11) && out.iter().all(|b| *b == 0x22));
-        }
-        returned
-    };
-    // 8 before 1 before 9
-    assert_eq!(run((0, 1), &[9], 0, 0), 8);
-    assert_eq!(run((8, 17), &[9], 0, 0), 8);
-    assert_eq!(run((8, 16), &[9], 0, 0), 1);
-    assert_eq!(run((8, 16), &[0, 2, 0, 0, 0, 7], 0, 0), 1);
-    assert_eq!(run((8, 16), &[], 7, 962), 9);
-    assert_eq!(run((8, 16), &[], 328, 1), 9);
-    assert_eq!(run((8, 16), &[4, 4, 3], 8, 2), 0);
-    assert_eq!((steps, used, generation), (0, 2, 2));
-    assert_eq!(
-        (moments[..9].to_vec(), out[..3].to_vec()),
-        (vec![0, 0, 0, 0, 0, 0, 0, 0, 0x11], vec![0, 0, 0x22])
-    );
+    let at_zone_two = common::prepared(image, &[Call::Look(1000 + 20 * DAY)]);
+    let back = common::prepared(at_zone_two, &[Call::RtcSet(DAY, 4, 2, 0)]);
+    assert_eq!(number(&back, 12, Call::Look(0)), 9);
+    assert_eq!(number(&back, 13, Call::Look(0)), 0);
 }

@@ -4,7 +4,7 @@ mod common;
 
 use common::{windows, zones, DAY};
 use timesync::{
-    replay, Attribute, Controller, DSTOffsetEntry, Effect, Effects, Event, ListStore, Look, Refusal, Sleep, TimeGranularity, TimeSource,
+    Attribute, Controller, DSTOffsetEntry, Effect, Effects, Event, ListStore, Look, Refusal, Sleep, TimeGranularity, TimeSource,
     TimeSyncHandler, TimeZoneEntry, TimeZoneStatus, Told, TrustedTimeSource, UtcTime, Wait, IMAGE_SIZE, RECORD_MAX,
 };
 
@@ -34,6 +34,8 @@ fn owned_and_lent() {
     let bytes = owned.into_bytes();
     assert!(Controller::from_image(bytes).is_ok());
     assert_eq!(Controller::from_image([0u8; IMAGE_SIZE - 1]).err(), Some(Refusal::BadLimits));
+    // bytes that no controller was made in
+    assert_eq!(Controller::from_image([0u8; IMAGE_SIZE]).err(), Some(Refusal::BadLimits));
     assert_eq!(Controller::from_image([2u8; IMAGE_SIZE]).err(), Some(Refusal::BadLimits));
     assert_eq!(
         Controller::new(
@@ -49,6 +51,33 @@ fn owned_and_lent() {
     );
     assert_eq!(Controller::new_in([0u8; 9], None, 0, 0).err(), Some(Refusal::BadLimits));
     assert_eq!(TimeSyncHandler::over([0u8; 4]).time_zone(0), Err(Refusal::BadLimits));
+}
+
+#[test]
+fn damaged_bytes_are_some_state() {
+    // every byte behind the magic is 255: codes that name nothing, counts and limits past the places, names of 64 bytes
+    let mut bytes = [0xFF; IMAGE_SIZE];
+    bytes[..4].copy_from_slice(b"TMS1");
+    let c = Controller::from_image(bytes).unwrap();
+    assert_eq!(c.rtc().utc_time_granularity(), Ok(TimeGranularity::NoTime));
+    assert_eq!(c.rtc().utc_time_source(), Ok(TimeSource::None));
+    assert_eq!(c.rtc().utc_time(0), Ok(UtcTime::Reliable(u64::MAX)));
+    assert_eq!((c.handler().time_zone_count(), c.handler().dst_offset_count()), (Ok(8), Ok(16)));
+    assert_eq!(
+        (c.handler().time_zone_list_max_size(), c.handler().dst_offset_list_max_size()),
+        (Ok(8), Ok(16))
+    );
+    assert_eq!(c.store().generation(), Ok(u32::MAX));
+    let entry = c.handler().time_zone(7).unwrap();
+    assert_eq!(
+        (entry.offset, entry.valid_at, entry.name.unwrap().as_bytes()),
+        (-1, u64::MAX, &[0xFF; 64][..])
+    );
+    assert!(entry.name.unwrap().as_str().is_err());
+    let mut record = [0; RECORD_MAX];
+    assert_eq!(c.store().record(&mut record), Ok(RECORD_MAX));
+    // a mark and a length are written as the commands take them
+    assert_eq!((record[0], record[13], record[14], record[625], record[638]), (8, 1, 64, 16, 1));
 }
 
 #[test]
@@ -77,6 +106,11 @@ fn clock() {
     assert_eq!(outcome.answer, Ok(true));
     assert!(outcome.effects.asks_for(Effect::StoreMoment));
     assert_eq!(c.rtc().utc_time_granularity(), Ok(TimeGranularity::Minutes));
+}
+
+#[test]
+fn clock_loaded_and_reset() {
+    let mut c = Controller::new(None, 7, 6).unwrap();
     let source = TrustedTimeSource {
         fab_idx: 3,
         node_id: u64::MAX,
@@ -95,29 +129,14 @@ fn clock() {
     assert_eq!(c.rtc().utc_time(0).map(UtcTime::reliable), Ok(None));
 }
 
-#[test]
-fn lists_and_handler() {
-    let mut c = Controller::new(
-        Some(ListStore {
-            zone_limit: 3,
-            window_limit: 2,
-        }),
-        0,
-        0,
-    )
-    .unwrap();
+/// Limits 3 and 2 with both lists, and the record that the last command stored.
+fn with_lists() -> (Controller, Vec<u8>) {
+    let limits = ListStore {
+        zone_limit: 3,
+        window_limit: 2,
+    };
+    let mut c = Controller::new(Some(limits), 0, 0).unwrap();
     let mut record = [0; RECORD_MAX];
-    // an empty list shows one zone
-    assert_eq!(c.handler().time_zone_count(), Ok(1));
-    assert_eq!(
-        c.handler().time_zone(0),
-        Ok(TimeZoneEntry {
-            offset: 0,
-            valid_at: 0,
-            name: None
-        })
-    );
-    assert_eq!(c.store().dst_table_empty(), Ok(true));
     let outcome = c.handler_mut().handle_set_time_zone(&berlin(), &mut record);
     let len = outcome.answer.unwrap();
     assert!(outcome.effects.eq([
@@ -129,13 +148,30 @@ fn lists_and_handler() {
     assert_eq!(record[..len], [berlin(), vec![0]].concat());
     let len = c.handler_mut().handle_set_dst_offset(&summers(), &mut record).answer.unwrap();
     assert_eq!(record[..len], [berlin(), summers()].concat());
-    let mut read = [0; RECORD_MAX];
-    assert_eq!(c.store().record(&mut read), Ok(len));
-    assert_eq!(read[..len], record[..len]);
-    assert_eq!(c.store().record(&mut read[..len - 1]), Err(Refusal::NoSpace));
+    (c, record[..len].to_vec())
+}
 
-    assert_eq!(c.handler().time_zone_count(), Ok(2));
-    assert_eq!(c.handler().dst_offset_count(), Ok(2));
+#[test]
+fn empty_lists() {
+    // an empty list shows one zone
+    let c = Controller::new(Some(ListStore::DEVICE), 0, 0).unwrap();
+    let shown = TimeZoneEntry {
+        offset: 0,
+        valid_at: 0,
+        name: None,
+    };
+    assert_eq!((c.handler().time_zone_count(), c.handler().time_zone(0)), (Ok(1), Ok(shown)));
+    assert_eq!(c.store().dst_table_empty(), Ok(true));
+}
+
+#[test]
+fn lists_read() {
+    let (c, record) = with_lists();
+    let (mut read, len) = ([0; RECORD_MAX], record.len());
+    assert_eq!(c.store().record(&mut read), Ok(len));
+    assert_eq!(read[..len], record);
+    assert_eq!(c.store().record(&mut read[..len - 1]), Err(Refusal::NoSpace));
+    assert_eq!((c.handler().time_zone_count(), c.handler().dst_offset_count()), (Ok(2), Ok(2)));
     assert_eq!(c.handler().time_zone_list_max_size(), Ok(3));
     assert_eq!(c.handler().dst_offset_list_max_size(), Ok(2));
     assert_eq!(c.handler().time_zone_database(), Ok(2));
@@ -143,25 +179,25 @@ fn lists_and_handler() {
     let entry = c.handler().time_zone(0).unwrap();
     assert_eq!((entry.offset, entry.valid_at), (3600, 0));
     assert_eq!(entry.name.unwrap().as_str(), Ok("Europe/Berlin"));
-    assert_eq!(
-        c.handler().time_zone(1),
-        Ok(TimeZoneEntry {
-            offset: 7200,
-            valid_at: 30 * DAY,
-            name: None
-        })
-    );
+    let second = TimeZoneEntry {
+        offset: 7200,
+        valid_at: 30 * DAY,
+        name: None,
+    };
+    assert_eq!(c.handler().time_zone(1), Ok(second));
     assert_eq!(c.handler().time_zone(2), Err(Refusal::ConstraintError));
-    assert_eq!(
-        c.handler().dst_offset(1),
-        Ok(DSTOffsetEntry {
-            offset: 3600,
-            valid_starting: 25 * DAY,
-            valid_until: Some(40 * DAY)
-        })
-    );
+    let second = DSTOffsetEntry {
+        offset: 3600,
+        valid_starting: 25 * DAY,
+        valid_until: Some(40 * DAY),
+    };
+    assert_eq!(c.handler().dst_offset(1), Ok(second));
     assert_eq!(c.handler().dst_offset(2), Err(Refusal::ConstraintError));
+}
 
+#[test]
+fn lists_looked_up() {
+    let (c, _) = with_lists();
     assert_eq!(c.store().active_time_zone(30 * DAY), Ok((7200, None)));
     assert_eq!(c.store().active_dst_offset(20 * DAY), Ok(None));
     assert_eq!(c.store().active_dst_offset(20 * DAY - 1), Ok(Some(3600)));
@@ -173,9 +209,14 @@ fn lists_and_handler() {
     let walk = c.store().walk(1).unwrap();
     assert_eq!(walk.steps(), 5);
     assert_eq!(walk.moments(), [1, 10 * DAY, 20 * DAY, 25 * DAY, 30 * DAY, 40 * DAY]);
+}
 
-    // LocalTime: null on a clock that is not set, between windows UTC and the zone, run out null
+#[test]
+fn local_time() {
+    // null on a clock that is not set, between windows UTC and the zone, run out null
+    let (mut c, _) = with_lists();
     assert_eq!(c.handler().local_time(0), Ok(None));
+    assert_eq!(c.handler_mut().handle_set_utc_time(0, 5, None, 0).answer, Err(Refusal::Unreadable));
     assert_eq!(c.handler_mut().handle_set_utc_time(0, 4, Some(0), 0).answer, Ok(()));
     let hour = common::HOUR;
     assert_eq!(c.handler().local_time(0), Ok(Some(hour)));
@@ -184,19 +225,25 @@ fn lists_and_handler() {
     assert_eq!(c.handler().local_time(30 * DAY), Ok(Some(30 * DAY + 3 * hour)));
     assert_eq!(c.handler().local_time(40 * DAY), Ok(None));
     assert_eq!(c.rtc().utc_time_source(), Ok(TimeSource::Admin));
+}
 
-    let outcome = c.handler_mut().handle_set_dst_offset(&windows(&[(0, 2, Some(1))]), &mut record);
+#[test]
+fn lists_lost_and_loaded() {
+    let (mut c, record) = with_lists();
+    let outcome = c
+        .handler_mut()
+        .handle_set_dst_offset(&windows(&[(0, 2, Some(1))]), &mut [0; RECORD_MAX]);
     assert_eq!(outcome.answer, Err(Refusal::ConstraintError));
     assert!(outcome.effects.eq([Effect::WakeTimer]));
     assert_eq!(c.handler().dst_offset_count(), Ok(0));
-    assert_eq!(c.store_mut().load(Some(&read[..len])).answer, Ok(()));
+    assert_eq!(c.store_mut().load(Some(&record)).answer, Ok(()));
     assert_eq!(c.handler().dst_offset_count(), Ok(2));
     assert_eq!(c.store_mut().load(None).answer, Ok(()));
     assert_eq!(c.store_mut().load(Some(&[])).answer, Err(Refusal::BadRecord));
+    assert_eq!(c.handler().dst_offset_count(), Ok(2));
     let outcome = c.store_mut().reset();
     assert!(outcome.effects.eq([Effect::RemoveRecord, Effect::WakeTimer]));
     assert_eq!(c.store().walk(3).unwrap().moments(), [3]);
-    assert_eq!(c.handler_mut().handle_set_utc_time(0, 5, None, 0).answer, Err(Refusal::Unreadable));
 }
 
 #[test]
@@ -293,48 +340,6 @@ fn client() {
         granularity: None,
     };
     assert_eq!(c.client_mut().attempt(Some(silent), 9).answer, Ok(Wait::For(100)));
-}
-
-#[test]
-fn histories() {
-    let sized = |kind: u8, bytes: &[u8]| [&[kind][..], &(bytes.len() as u32).to_le_bytes(), bytes].concat();
-    let record = [berlin(), summers()].concat();
-    let bad = windows(&[(0, 5, Some(5))]);
-    let mut out = [0; RECORD_MAX];
-    let mut run = |calls: &[Vec<u8>]| {
-        let replayed = replay(ListStore::LARGEST, &calls.concat(), 0, &mut out)?;
-        Ok((
-            replayed.walk.moments().to_vec(),
-            out[..replayed.record_len].to_vec(),
-            replayed.generation,
-        ))
-    };
-    let moments = vec![0, 10 * DAY, 20 * DAY, 25 * DAY, 30 * DAY, 40 * DAY];
-    assert_eq!(
-        run(&[sized(0, &berlin()), sized(1, &summers())]),
-        Ok((moments.clone(), record.clone(), 2))
-    );
-    assert_eq!(run(&[sized(2, &record), vec![3]]), Ok((moments, record.clone(), 0)));
-    assert_eq!(
-        run(&[sized(2, &record), sized(1, &bad)]),
-        Ok((vec![0, 30 * DAY], [berlin(), vec![0]].concat(), 1))
-    );
-    assert_eq!(run(&[sized(2, &record), vec![4]]), Ok((vec![0], vec![0, 0], 1)));
-    assert_eq!(run(&[vec![5]]), Err(Refusal::Unreadable));
-    assert_eq!(
-        replay(
-            ListStore {
-                zone_limit: 0,
-                window_limit: 1
-            },
-            &[],
-            0,
-            &mut []
-        )
-        .err(),
-        Some(Refusal::BadLimits)
-    );
-    assert_eq!(replay(ListStore::DEVICE, &[], 0, &mut []).err(), Some(Refusal::NoSpace));
 }
 
 #[test]

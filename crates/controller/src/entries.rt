@@ -1,8 +1,7 @@
 // Entries of the lists, lookups, the walk and the record.
-ghost use Rattle.image.specs.Asked.{leaves, leavesCopy, markOf, orZeroℤ};
-ghost use Rattle.image.specs.Parts.{orZero};
-ghost use Rattle.image_readings.specs.Readings.{activeOffset, activeZone, nextTransition, nowName, recordBytes, recordRead, walkBytes, walked, windowEntry, zoneEntry, zoneName};
 ghost use Rattle.model.specs.Answers.{numberOf};
+ghost use Rattle.model.specs.Output.{leaves, leavesCopy, markOf, orZero, orZeroℤ};
+ghost use Rattle.readings.specs.Readings.{activeOffset, activeZone, nextTransition, nowName, recordBytes, recordRead, walkBytes, walked, windowEntry, zoneEntry, zoneName};
 ghost use lib.ListN.{length};
 ghost use mathlib.Core.Path.{_≡_};
 
@@ -24,7 +23,7 @@ pub extern "C" fn timesync_time_zone(
         × (now (named .exit) ≡ leaves (zoneEntry (now (image .entry)) index (length (now (name .entry)))) (λ z. markOf (z .name)) (now (named .entry)))
         × (now («name_len» .exit) ≡ leaves (zoneEntry (now (image .entry)) index (length (now (name .entry)))) (λ z. length (zoneName z)) (now («name_len» .entry))) ⌝ }
 {
-    image_readings::entries::time_zone(image, index, name, offset, valid_at, named, name_len)
+    readings::entries::time_zone(image, index, name, offset, valid_at, named, name_len)
 }
 
 // DSTOffset: one of the windows.
@@ -43,7 +42,7 @@ pub extern "C" fn timesync_dst_offset(
         × (now (closed .exit) ≡ leaves (windowEntry (now (image .entry)) index) (λ w. markOf (w .until)) (now (closed .entry)))
         × (now («valid_until» .exit) ≡ leaves (windowEntry (now (image .entry)) index) (λ w. orZero (w .until)) (now («valid_until» .entry))) ⌝ }
 {
-    image_readings::entries::dst_offset(image, index, offset, valid_starting, closed, valid_until)
+    readings::entries::dst_offset(image, index, offset, valid_starting, closed, valid_until)
 }
 
 // The active zone; its name is copied to the front of `name`.
@@ -62,7 +61,7 @@ pub extern "C" fn timesync_active_time_zone(
         × (now (named .exit) ≡ leaves (activeZone (now (image .entry)) utc (length (now (name .entry)))) (λ z. markOf (z .name)) (now (named .entry)))
         × (now («name_len» .exit) ≡ leaves (activeZone (now (image .entry)) utc (length (now (name .entry)))) (λ z. length (nowName z)) (now («name_len» .entry))) ⌝ }
 {
-    image_readings::entries::active_time_zone(image, utc, name, offset, named, name_len)
+    readings::entries::active_time_zone(image, utc, name, offset, named, name_len)
 }
 
 // The offset of the first active window, or that none is active.
@@ -77,7 +76,7 @@ pub extern "C" fn timesync_active_dst_offset(
         × (now (there .exit) ≡ leaves (activeOffset (now (image .entry)) utc) markOf (now (there .entry)))
         × (now (offset .exit) ≡ leaves (activeOffset (now (image .entry)) utc) orZeroℤ (now (offset .entry))) ⌝ }
 {
-    image_readings::entries::active_dst_offset(image, utc, there, offset)
+    readings::entries::active_dst_offset(image, utc, there, offset)
 }
 
 // The smallest start or end after now, or that there is none.
@@ -92,7 +91,7 @@ pub extern "C" fn timesync_next_transition(
         × (now (there .exit) ≡ leaves (nextTransition (now (image .entry)) utc) markOf (now (there .entry)))
         × (now (moment .exit) ≡ leaves (nextTransition (now (image .entry)) utc) orZero (now (moment .entry))) ⌝ }
 {
-    image_readings::transitions::next_transition(image, utc, there, moment)
+    readings::transitions::next_transition(image, utc, there, moment)
 }
 
 // The walk: its moments to the front of `moments`, 8 bytes each and the starting moment first, and the number of steps.
@@ -107,7 +106,7 @@ pub extern "C" fn timesync_walk(
         × (now (moments .exit) ≡ leavesCopy (walked (now (image .entry)) start (length (now (moments .entry)))) walkBytes (now (moments .entry)))
         × (now (steps .exit) ≡ leaves (walked (now (image .entry)) start (length (now (moments .entry)))) (λ w. w .steps) (now (steps .entry))) ⌝ }
 {
-    image_readings::transitions::walk(image, start, moments, steps)
+    readings::transitions::walk(image, start, moments, steps)
 }
 
 // The record of both lists to the front of `out`, and its length.
@@ -117,5 +116,5 @@ pub extern "C" fn timesync_record(image: &[u8], out: &mut [u8], used: &mut u64) 
         × (now (out .exit) ≡ leavesCopy (recordRead (now (image .entry)) (length (now (out .entry)))) recordBytes (now (out .entry)))
         × (now (used .exit) ≡ leaves (recordRead (now (image .entry)) (length (now (out .entry)))) (λ b. length b) (now (used .entry))) ⌝ }
 {
-    image_readings::transitions::stored(image, out, used)
+    readings::transitions::stored(image, out, used)
 }

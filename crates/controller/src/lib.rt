@@ -1,10 +1,10 @@
 // The entry points for C. Each works on numbers, on slices, and on one image that the caller lends; include/timesync.h says how to call
 // them. The rules stand in the crates below; an entry point only hands over.
-pub mod commands;
+pub mod attributes;
+pub mod client;
+pub mod clock;
 pub mod entries;
 pub mod lists;
-pub mod readings;
-pub mod steps;
 
 ghost use mathlib.Core.Path.{_≡_};
 ghost use Rattle.image.specs.Layout.{imageSize};
@@ -14,5 +14,5 @@ ghost use Rattle.image.specs.Layout.{imageSize};
 pub extern "C" fn timesync_image_size() -> u64
     ensures { λ r. ⌜ r ≡ imageSize ⌝ }
 {
-    1120
+    image::place::SIZE as u64
 }

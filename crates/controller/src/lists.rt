@@ -1,8 +1,6 @@
 // Commands on the lists, their load and their reset.
-ghost use Rattle.image.specs.Asked.{given, leaves, recordStored};
-ghost use Rattle.image_commands.specs.Calls.{loadLeft, loadLists, resetLists, returnedBy, setDSTOffset, setTimeZone, storeLeft, windowsLeft};
-ghost use Rattle.model.specs.Output.{copiedOver};
-ghost use lib.ListN.{length};
+ghost use Rattle.commands.specs.Calls.{loadLists, resetLists, setDSTOffset, setTimeZone};
+ghost use Rattle.image.specs.Asked.{given};
 ghost use mathlib.Core.Path.{_≡_};
 
 // SetTimeZone; the record to store is copied to the front of `out`, and `used` is its length.
@@ -13,13 +11,12 @@ pub extern "C" fn timesync_set_time_zone(
     out: &mut [u8],
     used: &mut u64,
 ) -> u64
-    ensures { λ r. ⌜ (r ≡ returnedBy (setTimeZone (now (image .entry)) (now (request .entry)) (length (now (out .entry)))))
-        × (now (image .exit) ≡ storeLeft (now (image .entry)) (setTimeZone (now (image .entry)) (now (request .entry)) (length (now (out .entry)))))
-        × (now (out .exit) ≡ copiedOver (recordStored (setTimeZone (now (image .entry)) (now (request .entry)) (length (now (out .entry))) .effects)) (now (out .entry)))
-        × (now (used .exit) ≡ leaves (setTimeZone (now (image .entry)) (now (request .entry)) (length (now (out .entry))) .answer)
-        (λ a. length (recordStored (setTimeZone (now (image .entry)) (now (request .entry)) (length (now (out .entry))) .effects))) (now (used .entry))) ⌝ }
+    ensures { λ r. ⌜ (r ≡ setTimeZone (now (image .entry)) (now (request .entry)) (now (out .entry)) (now (used .entry)) .returned)
+        × (now (image .exit) ≡ setTimeZone (now (image .entry)) (now (request .entry)) (now (out .entry)) (now (used .entry)) .image)
+        × (now (out .exit) ≡ setTimeZone (now (image .entry)) (now (request .entry)) (now (out .entry)) (now (used .entry)) .out)
+        × (now (used .exit) ≡ setTimeZone (now (image .entry)) (now (request .entry)) (now (out .entry)) (now (used .entry)) .used) ⌝ }
 {
-    image_commands::lists::set_time_zone(image, request, out, used)
+    commands::lists::set_time_zone(image, request, out, used)
 }
 
 // SetDSTOffset; the same.
@@ -30,29 +27,27 @@ pub extern "C" fn timesync_set_dst_offset(
     out: &mut [u8],
     used: &mut u64,
 ) -> u64
-    ensures { λ r. ⌜ (r ≡ returnedBy (setDSTOffset (now (image .entry)) (now (request .entry)) (length (now (out .entry)))))
-        × (now (image .exit) ≡ windowsLeft (now (image .entry)) (setDSTOffset (now (image .entry)) (now (request .entry)) (length (now (out .entry)))))
-        × (now (out .exit) ≡ copiedOver (recordStored (setDSTOffset (now (image .entry)) (now (request .entry)) (length (now (out .entry))) .effects)) (now (out .entry)))
-        × (now (used .exit) ≡ leaves (setDSTOffset (now (image .entry)) (now (request .entry)) (length (now (out .entry))) .answer)
-        (λ a. length (recordStored (setDSTOffset (now (image .entry)) (now (request .entry)) (length (now (out .entry))) .effects))) (now (used .entry))) ⌝ }
+    ensures { λ r. ⌜ (r ≡ setDSTOffset (now (image .entry)) (now (request .entry)) (now (out .entry)) (now (used .entry)) .returned)
+        × (now (image .exit) ≡ setDSTOffset (now (image .entry)) (now (request .entry)) (now (out .entry)) (now (used .entry)) .image)
+        × (now (out .exit) ≡ setDSTOffset (now (image .entry)) (now (request .entry)) (now (out .entry)) (now (used .entry)) .out)
+        × (now (used .exit) ≡ setDSTOffset (now (image .entry)) (now (request .entry)) (now (out .entry)) (now (used .entry)) .used) ⌝ }
 {
-    image_commands::lists::set_dst_offset(image, request, out, used)
+    commands::lists::set_dst_offset(image, request, out, used)
 }
 
 // Loads the lists from their record where `there` is not 0.
 #[no_mangle]
 pub extern "C" fn timesync_load_lists(image: &mut [u8], there: u8, stored: &[u8]) -> u64
-    ensures { λ r. ⌜ (r ≡ returnedBy (loadLists (now (image .entry)) (given there (now (stored .entry)))))
-        × (now (image .exit) ≡ loadLeft (now (image .entry)) (given there (now (stored .entry))) (loadLists (now (image .entry)) (given there (now (stored .entry))))) ⌝ }
+    ensures { λ r. ⌜ (r ≡ loadLists (now (image .entry)) (given there (now (stored .entry))) .returned)
+        × (now (image .exit) ≡ loadLists (now (image .entry)) (given there (now (stored .entry))) .image) ⌝ }
 {
-    image_commands::lists::load_lists(image, there, stored)
+    commands::lists::load_lists(image, there, stored)
 }
 
 // Empties the lists.
 #[no_mangle]
 pub extern "C" fn timesync_reset_lists(image: &mut [u8]) -> u64
-    ensures { λ r. ⌜ (r ≡ returnedBy (resetLists (now (image .entry))))
-        × (now (image .exit) ≡ storeLeft (now (image .entry)) (resetLists (now (image .entry)))) ⌝ }
+    ensures { λ r. ⌜ (r ≡ resetLists (now (image .entry)) .returned) × (now (image .exit) ≡ resetLists (now (image .entry)) .image) ⌝ }
 {
-    image_commands::lists::reset_lists(image)
+    commands::lists::reset_lists(image)
 }

@@ -8,7 +8,7 @@ use lib.ListN.{length, take, drop, getD, length-append}
 use lib.Seq.{take-take, drop-drop, take-length, getD-take, getD-drop, take-append-seam, drop-append-seam}
 use Rattle.model.specs.Bytes.{number}
 use Rattle.word.specs.Place.{placed, byteAt, wordAt}
-use Rattle.image.proofs.Frame.{part-front, part-in, length-placed}
+use Rattle.word.proofs.Frame.{part-front, part-in, length-placed}
 
 -- the bytes `bs` stand at `at`
 pub record Holds (t : List ℕ) (at : ℕ) (bs : List ℕ) : Type 0 where

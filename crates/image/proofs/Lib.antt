@@ -1,7 +1,6 @@
-pub mod Frame
+pub mod Holds
 pub mod Written
 pub mod Outside
-pub mod Holds
 pub mod Back
 pub mod Alone
 pub mod New

@@ -1,92 +1,100 @@
 -- A new image has no lists, a fresh clock, a timer that saw nothing and a new client.
-use mathlib.Core.Bool.{Bool, true, false, _&&_}
+use mathlib.Core.Bool.{Bool, true, false}
 use mathlib.Core.List.{List, [], _∷_, _++_}
 use mathlib.Core.Option.{none}
-use mathlib.Core.Path.{_≡_, refl}
-use Prim.Native.Nat.{ℕ, _<_}
+use mathlib.Core.Path.{_≡_, refl, sym, ap, _∙_}
+use Prim.Native.Nat.{ℕ, _≤_, min}
 use native.Mathlib.Omega.{arith}
-use borrow.Author.Tests.{le-leb}
+use borrow.Author.Tests.{leb-true}
 use lib.Dec.{leb}
-use lib.ListN.{length, replicate, getD}
-use Rattle.model.specs.Bytes.{bytes}
+use lib.ListN.{take, drop}
+use lib.Seq.{take-all}
+use Rattle.model.specs.Bytes.{bytes, number}
 use Rattle.model.specs.Clock.{fresh}
 use Rattle.model.specs.Lists.{empty}
 use Rattle.model.specs.RoundTrip.{IsMoment}
-use Rattle.model.specs.Rules.{allowed}
+use Rattle.model.specs.Rules.{Rules, allowed}
 use Rattle.model.specs.Retries.{newClient}
-use Rattle.model.proofs.Words.{length-bytes}
-use Rattle.word.specs.Place.{byteAt}
-use Rattle.image.specs.Layout.{storeInRange, zonesIn, windowsIn, listsIn, entriesFrom}
-use Rattle.image.specs.Parts.{rulesIn, bit, limitOf, timerBytes, clockBytes, clientBytes, newBytes, newImage}
+use Rattle.model.proofs.Words.{length-bytes, number-bytes}
+use Rattle.word.specs.Place.{wordAt}
+use Rattle.table.specs.Layout.{generationPlace, entriesFrom, zonesIn, windowsIn, storeIn}
+use Rattle.table.specs.Layout as T
+use Rattle.image.specs.Layout.{magic, magicPlace, storePlace, clockPlace, clientPlace, timerPlace, tablePlace, tableIn}
+use Rattle.image.specs.Parts.{bit, limitOf, timerBytes, clockBytes, clientBytes, newBytes, newImage}
 use Rattle.image.specs.Laws.{ClockFits, ClientFits, NewIsFresh, limitsAllowed}
-use Rattle.image.proofs.Frame.{length-placed}
-use Rattle.image.proofs.Written.{length-new, length-timer, length-clock}
-use Rattle.image.proofs.Holds.{Holds, placed-holds, holds-byte, holds-left, holds-right}
+use Rattle.word.proofs.Frame.{length-placed}
+use Rattle.image.proofs.Written.{length-new, length-table, length-clock, length-client, length-timer}
+use Rattle.image.proofs.Holds.{Holds, placed-holds, holds-byte, holds-word, holds-left, holds-right}
 use Rattle.image.proofs.Outside.{both, is-image}
-use Rattle.image.proofs.Back.{clock-range, clock-reads, timer-range, timer-reads, client-range, client-reads, generation-reads}
+use Rattle.image.proofs.Back.{bit-back, clock-reads, timer-reads, client-reads}
 
--- the marks and the limits at the front
-abbrev front : Bool → ℕ → ℕ → List ℕ
-front there zones windows = bit there ∷ limitOf there zones ∷ limitOf there windows ∷ 0 ∷ 0 ∷ []
+-- ## A new table
 
--- limits that are allowed are in range
-limits-low : (there : Bool) (zones windows : ℕ) → limitsAllowed there zones windows
-    → leb (bit there) 1 && (leb (limitOf there zones) 8 && (leb (limitOf there windows) 16 && (leb (bit there) (limitOf there zones) && (leb (bit there) (limitOf there windows) && (leb 0 (limitOf there zones) && leb 0 (limitOf there windows)))))) ≡ true
+module _ (r : Rules) where
+  generation-new : wordAt 4 (T.newBytes r) generationPlace ≡ 0
+  unfolding wordAt T.newBytes number
+  generation-new = refl
+
+  store-new : r .zoneLimit ≤ 8 → r .windowLimit ≤ 16 → storeIn (T.newBytes r) ≡ record { rules = r; lists = empty; generation = 0 }
+  unfolding T.newBytes zonesIn windowsIn entriesFrom
+  store-new z w =
+      let e : min (r .zoneLimit) 8 ≡ r .zoneLimit = omega arith in
+      let f : min (r .windowLimit) 16 ≡ r .windowLimit = omega arith in
+      rw (e, f, generation-new)
+
+-- limits that are allowed, or that stand for no list store, are in range
+limits-low : (there : Bool) (zones windows : ℕ) → limitsAllowed there zones windows → (limitOf there zones ≤ 8) × (limitOf there windows ≤ 16)
 unfolding allowed
 limits-low true zones windows h =
     let p = both (leb 1 zones) _ (h refl) in
     let q = both (leb zones 8) _ (p .1) in
     let r = both (leb 1 windows) (leb windows 16) (q .1) in
-    rw (p .0, q .0, r .0, r .1, le-leb 0 zones (omega arith), le-leb 0 windows (omega arith))
-limits-low false zones windows h = refl
+    (leb-true zones 8 (q .0), leb-true windows 16 (r .1))
+limits-low false zones windows h = (omega arith, omega arith)
 
-module _ (t : List ℕ) (there : Bool) (zones windows build period : ℕ) (h : Holds t 0 (newBytes there zones windows build period)) where
-  -- where the parts stand
-  abbrev head : List ℕ
-  head = front there zones windows ++ timerBytes none
+-- ## Where the parts of a new image stand
 
-  length-head : length head ≡ 12
-  length-head = let l = length-timer none in omega arith
+abbrev mark : Bool → List ℕ
+mark there = bit there ∷ 0 ∷ 0 ∷ 0 ∷ []
 
-  first : Holds t 0 head
-  unfolding newBytes
-  first = holds-left head (bytes 4 0 ++ (clockBytes (fresh build) ++ (clientBytes (newClient period) ++ replicate 1030 0))) h
+abbrev limits : Bool → ℕ → ℕ → Rules
+limits there zones windows = record { zoneLimit = limitOf there zones; windowLimit = limitOf there windows }
 
-  rest : Holds t 12 (bytes 4 0 ++ (clockBytes (fresh build) ++ (clientBytes (newClient period) ++ replicate 1030 0)))
-  unfolding newBytes
-  rest = holds-right head (bytes 4 0 ++ (clockBytes (fresh build) ++ (clientBytes (newClient period) ++ replicate 1030 0))) h (omega (arith, length-head))
+record Stand (t : List ℕ) (lists : Bool) (zones windows build period : ℕ) : Type 0 where
+  magical : Holds t magicPlace (bytes 4 magic)
+  marked : Holds t storePlace (mark lists)
+  clock : Holds t clockPlace (clockBytes (fresh build))
+  client : Holds t clientPlace (clientBytes (newClient period))
+  timer : Holds t timerPlace (timerBytes none)
+  table : Holds t tablePlace (T.newBytes (limits lists zones windows))
 
-  pub marks : Holds t 0 (front there zones windows)
-  marks = holds-left (front there zones windows) (timerBytes none) first
+stand : (t : List ℕ) (there : Bool) (zones windows build period : ℕ) → Holds t magicPlace (newBytes there zones windows build period)
+    → Stand t there zones windows build period
+unfolding newBytes
+stand t there zones windows build period h =
+    let m = bytes 4 magic in
+    let c = clockBytes (fresh build) in
+    let k = clientBytes (newClient period) in
+    let x = timerBytes none in
+    let table = T.newBytes (limits there zones windows) in
+    let timer = x ++ table in
+    let client = k ++ timer in
+    let clock = c ++ client in
+    let lists = mark there ++ clock in
+    let h₁ : Holds t storePlace lists = holds-right m lists h (omega (arith, length-bytes 4 magic)) in
+    let h₂ : Holds t clockPlace clock = holds-right (mark there) clock h₁ (omega arith) in
+    let h₃ : Holds t clientPlace client = holds-right c client h₂ (omega (arith, length-clock (fresh build))) in
+    let h₄ : Holds t timerPlace timer = holds-right k timer h₃ (omega (arith, length-client (newClient period))) in
+    record {
+      magical = holds-left m lists h;
+      marked = holds-left (mark there) clock h₁;
+      clock = holds-left c client h₂;
+      client = holds-left k timer h₃;
+      timer = holds-left x table h₄;
+      table = holds-right x table h₄ (omega (arith, length-timer none));
+    }
 
-  pub timer : Holds t 5 (timerBytes none)
-  timer = holds-right (front there zones windows) (timerBytes none) first (omega arith)
-
-  pub generation : Holds t 12 (bytes 4 0)
-  generation = holds-left (bytes 4 0) (clockBytes (fresh build) ++ (clientBytes (newClient period) ++ replicate 1030 0)) rest
-
-  later : Holds t 16 (clockBytes (fresh build) ++ (clientBytes (newClient period) ++ replicate 1030 0))
-  later = holds-right (bytes 4 0) (clockBytes (fresh build) ++ (clientBytes (newClient period) ++ replicate 1030 0)) rest (omega (arith, length-bytes 4 0))
-
-  pub clock : Holds t 16 (clockBytes (fresh build))
-  clock = holds-left (clockBytes (fresh build)) (clientBytes (newClient period) ++ replicate 1030 0) later
-
-  pub client : Holds t 56 (clientBytes (newClient period))
-  client = holds-left (clientBytes (newClient period)) (replicate 1030 0)
-      (holds-right (clockBytes (fresh build)) (clientBytes (newClient period) ++ replicate 1030 0) later (omega (arith, length-clock (fresh build))))
-
-  byte : (i : ℕ) → i < 5 → byteAt t i ≡ getD (front there zones windows) i 0
-  byte i q = holds-byte marks i i (omega arith) q
-
-  pub store-range : limitsAllowed there zones windows → storeInRange t ≡ true
-  store-range a = rw (byte 0 (omega arith), byte 1 (omega arith), byte 2 (omega arith), byte 3 (omega arith), byte 4 (omega arith)) (limits-low there zones windows a)
-
-  pub rules-new : rulesIn t ≡ record { zoneLimit = limitOf there zones; windowLimit = limitOf there windows }
-  rules-new = rw (byte 1 (omega arith), byte 2 (omega arith))
-
-  pub lists-new : listsIn t ≡ empty
-  unfolding zonesIn windowsIn entriesFrom
-  lists-new = rw (byte 3 (omega arith), byte 4 (omega arith))
+-- ## What they stand for
 
 fresh-fits : (build : ℕ) → IsMoment build → ClockFits (fresh build)
 fresh-fits build b = record { utc = b; persisted = b; anchor = omega arith; fabric = omega arith; node = omega arith; endpoint = omega arith }
@@ -94,31 +102,27 @@ fresh-fits build b = record { utc = b; persisted = b; anchor = omega arith; fabr
 client-fits : (period : ℕ) → IsMoment period → ClientFits (newClient period)
 client-fits period b = record { period = b; retry = omega arith; missing = omega arith; failure = omega arith }
 
+magic-reads : (t : List ℕ) → Holds t magicPlace (bytes 4 magic) → wordAt 4 t magicPlace ≡ magic
+magic-reads t h =
+    let l = length-bytes 4 magic in
+    holds-word h 4 magicPlace 0 refl (omega arith) ∙ ap number (take-all 4 (bytes 4 magic) (omega arith)) ∙ number-bytes 4 magic (omega arith)
+
+table-reads : (t : List ℕ) (r : Rules) → Holds t tablePlace (T.newBytes r) → tableIn t ≡ T.newBytes r
+table-reads t r h = ap (λ (n : ℕ). take n (drop tablePlace t)) (sym (length-table r)) ∙ h .is
+
 pub new-is-fresh : NewIsFresh
 unfolding newImage
 new-is-fresh s there zones windows build period r a b p =
-    let l = length-new there zones windows build period in
     let bs = newBytes there zones windows build period in
-    let h = placed-holds s 0 bs (omega arith) in
+    let l = length-new there zones windows build period in
     let t = newImage s there zones windows build period in
-    let c = clock t there zones windows build period h in
-    let k = client t there zones windows build period h in
-    let m = timer t there zones windows build period h in
+    let o = stand t there zones windows build period (placed-holds s magicPlace bs (omega arith)) in
+    let q = limits-low there zones windows a in
     record {
-      image =
-          is-image t
-          (record {
-            size = omega (arith, length-placed s 0 bs);
-            store = store-range t there zones windows build period h a;
-            timer = timer-range none m;
-            clock = clock-range (fresh build) c;
-            client = client-range (newClient period) k;
-          });
-      mark = holds-byte (marks t there zones windows build period h) 0 0 refl (omega arith);
-      rules = rules-new t there zones windows build period h;
-      lists = lists-new t there zones windows build period h;
-      generation = generation-reads 0 (generation t there zones windows build period h) (omega arith);
-      clock = clock-reads (fresh build) c (fresh-fits build b);
-      timer = timer-reads none m tt;
-      client = client-reads (newClient period) k (client-fits period p);
+      image = is-image t (record { size = omega (arith, length-placed s magicPlace bs); marked = magic-reads t (o .magical) });
+      there = rw (holds-byte (o .marked) storePlace 0 refl (omega arith)) (bit-back there);
+      store = ap storeIn (table-reads t (limits there zones windows) (o .table)) ∙ store-new (limits there zones windows) (q .0) (q .1);
+      clock = clock-reads (fresh build) (o .clock) (fresh-fits build b);
+      timer = timer-reads none (o .timer) tt;
+      client = client-reads (newClient period) (o .client) (client-fits period p);
     }

@@ -2,24 +2,22 @@
 use mathlib.Core.Bool.{Bool, true, false, _&&_}
 use mathlib.Core.List.{List}
 use mathlib.Core.Path.{_≡_, refl}
-use Prim.Native.Nat.{ℕ, zero, suc, _+_, _≤_, _<_}
+use Prim.Native.Nat.{ℕ, _+_, _≤_, _<_}
 use native.Mathlib.Omega.{arith}
-use borrow.Author.Tests.{le-leb, leb-true}
+use borrow.Author.Tests.{le-leb, leb-true, eqb-true}
 use lib.Dec.{leb}
-use lib.ListN.{length}
+use lib.ListN.{length, take, drop}
 use Rattle.word.specs.Place.{placed, byteAt, wordAt}
-use Rattle.image.specs.Layout.{imageSize, isImage, storeInRange, timerInRange, clockInRange, clientInRange, zoneAt, windowAt, zonePlace, windowPlace, zoneCount, windowCount, entriesFrom, zonesIn, windowsIn, listsIn}
-use Rattle.image.specs.Parts.{clockIn, timerIn, clientIn, rulesIn}
-use Rattle.image.proofs.Frame as frame
+use Rattle.table.specs.Layout.{tableSize}
+use Rattle.image.specs.Layout.{imageSize, magic, magicPlace, storePlace, clockPlace, tablePlace, isImage, tableIn}
+use Rattle.image.specs.Parts.{clockAt, timerAt, clientAt, hasLists}
+use Rattle.word.proofs.Frame as frame
 
 -- ## What an image is
 
 pub record Image (s : List ℕ) : Type 0 where
   pub size : imageSize ≤ length s
-  pub store : storeInRange s ≡ true
-  pub timer : timerInRange s ≡ true
-  pub clock : clockInRange s ≡ true
-  pub client : clientInRange s ≡ true
+  pub marked : wordAt 4 s magicPlace ≡ magic
 
 pub both : (a b : Bool) → a && b ≡ true → (a ≡ true) × (b ≡ true)
 both true b h = (refl, h)
@@ -29,26 +27,17 @@ pub image-is : (s : List ℕ) → isImage s ≡ true → Image s
 unfolding isImage
 image-is s h =
     let p = both (leb imageSize (length s)) _ h in
-    let q = both (storeInRange s) _ (p .1) in
-    let r = both (timerInRange s) _ (q .1) in
-    let t = both (clockInRange s) (clientInRange s) (r .1) in
-    record { size = leb-true imageSize (length s) (p .0); store = q .0; timer = r .0; clock = t .0; client = t .1 }
+    record { size = leb-true imageSize (length s) (p .0); marked = eqb-true (wordAt 4 s magicPlace) magic (p .1) }
 
 pub is-image : (s : List ℕ) → Image s → isImage s ≡ true
 unfolding isImage
-is-image s i = rw (le-leb imageSize (length s) (i .size), i .store, i .timer, i .clock, i .client)
+is-image s i = rw (le-leb imageSize (length s) (i .size), i .marked)
 
 -- ## Places from `lo` on and before `hi`, where n bytes are written at `at`
 
 pub data Apart (at n lo hi : ℕ) : Type 0 where
   before : hi ≤ at → Apart at n lo hi
   after : at + n ≤ lo → Apart at n lo hi
-
-module _ {A : Type 0} where
-  entries-alike : (f g : ℕ → A) (i n : ℕ) → ((k : ℕ) → f k ≡ g k) → entriesFrom f i n ≡ entriesFrom g i n
-  unfolding entriesFrom
-  entries-alike f g i zero h = refl
-  entries-alike f g i (suc n) h = rw (h i, entries-alike f g (suc i) n h)
 
 module _ (s : List ℕ) (at : ℕ) (bs : List ℕ) {n : ℕ} (l : length bs ≡ n) where
   pub byte-apart : {lo hi : ℕ} → Apart at n lo hi → (i : ℕ) → lo ≤ i → i < hi → byteAt (placed s at bs) i ≡ byteAt s i
@@ -59,56 +48,39 @@ module _ (s : List ℕ) (at : ℕ) (bs : List ℕ) {n : ℕ} (l : length bs ≡ 
   word-apart (before q) w i a b = frame.word-before s at bs w i (omega arith)
   word-apart (after q) w i a b = frame.word-after s at bs w i (omega arith)
 
-  -- ## The parts
+  pub part-apart : {lo hi : ℕ} → Apart at n lo hi → (m i : ℕ) → lo ≤ i → i + m ≤ hi → take m (drop i (placed s at bs)) ≡ take m (drop i s)
+  part-apart (before q) m i a b = frame.part-before s at bs m i (omega arith)
+  part-apart (after q) m i a b = frame.part-after s at bs m i (omega arith)
 
-  pub store-apart : Apart at n 0 5 → storeInRange (placed s at bs) ≡ storeInRange s
-  store-apart a =
-      rw (byte-apart a 0 (omega arith) (omega arith), byte-apart a 1 (omega arith) (omega arith), byte-apart a 2 (omega arith) (omega arith), byte-apart a 3 (omega arith) (omega arith), byte-apart a 4 (omega arith) (omega arith))
+  -- ## A part at the place p
 
-  pub rules-apart : Apart at n 0 5 → rulesIn (placed s at bs) ≡ rulesIn s
-  rules-apart a = rw (byte-apart a 1 (omega arith) (omega arith), byte-apart a 2 (omega arith) (omega arith))
+  pub clock-apart : (p : ℕ) → Apart at n p (p + 40) → clockAt (placed s at bs) p ≡ clockAt s p
+  clock-apart p a =
+      rw (byte-apart a p (omega arith) (omega arith), byte-apart a (p + 1) (omega arith) (omega arith), byte-apart a (p + 2) (omega arith) (omega arith), byte-apart a (p + 3) (omega arith) (omega arith), byte-apart a (p + 4) (omega arith) (omega arith), word-apart a 2 (p + 6) (omega arith) (omega arith), word-apart a 8 (p + 8) (omega arith) (omega arith), word-apart a 8 (p + 16) (omega arith) (omega arith), word-apart a 8 (p + 24) (omega arith) (omega arith), word-apart a 8 (p + 32) (omega arith) (omega arith))
 
-  pub timer-apart : Apart at n 5 12 → timerIn (placed s at bs) ≡ timerIn s
-  timer-apart a =
-      rw (byte-apart a 5 (omega arith) (omega arith), byte-apart a 6 (omega arith) (omega arith), byte-apart a 7 (omega arith) (omega arith), word-apart a 4 8 (omega arith) (omega arith))
+  pub timer-apart : (p : ℕ) → Apart at n p (p + 8) → timerAt (placed s at bs) p ≡ timerAt s p
+  timer-apart p a =
+      rw (byte-apart a p (omega arith) (omega arith), byte-apart a (p + 1) (omega arith) (omega arith), byte-apart a (p + 2) (omega arith) (omega arith), word-apart a 4 (p + 4) (omega arith) (omega arith))
 
-  pub timer-range-apart : Apart at n 5 12 → timerInRange (placed s at bs) ≡ timerInRange s
-  timer-range-apart a = rw (byte-apart a 5 (omega arith) (omega arith), byte-apart a 6 (omega arith) (omega arith), byte-apart a 7 (omega arith) (omega arith))
+  pub client-apart : (p : ℕ) → Apart at n p (p + 40) → clientAt (placed s at bs) p ≡ clientAt s p
+  client-apart p a =
+      rw (word-apart a 8 p (omega arith) (omega arith), word-apart a 8 (p + 8) (omega arith) (omega arith), word-apart a 8 (p + 16) (omega arith) (omega arith), word-apart a 8 (p + 24) (omega arith) (omega arith), byte-apart a (p + 32) (omega arith) (omega arith), byte-apart a (p + 33) (omega arith) (omega arith))
 
-  pub clock-apart : Apart at n 16 56 → clockIn (placed s at bs) ≡ clockIn s
-  clock-apart a =
-      rw (byte-apart a 16 (omega arith) (omega arith), byte-apart a 17 (omega arith) (omega arith), byte-apart a 18 (omega arith) (omega arith), byte-apart a 19 (omega arith) (omega arith), byte-apart a 20 (omega arith) (omega arith), word-apart a 2 22 (omega arith) (omega arith), word-apart a 8 24 (omega arith) (omega arith), word-apart a 8 32 (omega arith) (omega arith), word-apart a 8 40 (omega arith) (omega arith), word-apart a 8 48 (omega arith) (omega arith))
+  -- ## Parts of an image
 
-  pub clock-range-apart : Apart at n 16 56 → clockInRange (placed s at bs) ≡ clockInRange s
-  clock-range-apart a = rw (byte-apart a 16 (omega arith) (omega arith), byte-apart a 17 (omega arith) (omega arith), byte-apart a 18 (omega arith) (omega arith), byte-apart a 19 (omega arith) (omega arith))
+  pub table-apart : Apart at n tablePlace imageSize → tableIn (placed s at bs) ≡ tableIn s
+  table-apart a = part-apart a tableSize tablePlace (omega arith) (omega arith)
 
-  pub client-apart : Apart at n 56 90 → clientIn (placed s at bs) ≡ clientIn s
-  client-apart a =
-      rw (word-apart a 8 56 (omega arith) (omega arith), word-apart a 8 64 (omega arith) (omega arith), word-apart a 8 72 (omega arith) (omega arith), word-apart a 8 80 (omega arith) (omega arith), byte-apart a 88 (omega arith) (omega arith), byte-apart a 89 (omega arith) (omega arith))
+  -- what is written behind the mark leaves it, and an image
 
-  pub client-range-apart : Apart at n 56 90 → clientInRange (placed s at bs) ≡ clientInRange s
-  client-range-apart a = rw (byte-apart a 88 (omega arith) (omega arith), byte-apart a 89 (omega arith) (omega arith))
+  pub mark-apart : clockPlace ≤ at → hasLists (placed s at bs) ≡ hasLists s
+  mark-apart h = rw (frame.byte-before s at bs storePlace (omega arith))
 
-  -- ## The lists, where all that is written lies before them and after their counts
-
-  module _ (h : at + n ≤ 96) where
-    zone-stays : (p : ℕ) → 96 ≤ p → zoneAt (placed s at bs) p ≡ zoneAt s p
-    zone-stays p q =
-        rw (frame.word-after s at bs 4 p (omega arith), frame.word-after s at bs 8 (p + 4) (omega arith), frame.byte-after s at bs (p + 12) (omega arith), frame.byte-after s at bs (p + 13) (omega arith), frame.drop-placed s at bs (p + 14) (omega arith))
-
-    window-stays : (p : ℕ) → 96 ≤ p → windowAt (placed s at bs) p ≡ windowAt s p
-    window-stays p q =
-        rw (frame.word-after s at bs 4 p (omega arith), frame.word-after s at bs 8 (p + 4) (omega arith), frame.byte-after s at bs (p + 12) (omega arith), frame.word-after s at bs 8 (p + 13) (omega arith))
-
-    pub zones-stay : byteAt (placed s at bs) 3 ≡ byteAt s 3 → zonesIn (placed s at bs) ≡ zonesIn s
-    unfolding zonesIn
-    zones-stay e =
-        rw e (entries-alike (λ k. zoneAt (placed s at bs) (zonePlace k)) (λ k. zoneAt s (zonePlace k)) 0 (zoneCount s) (λ k. zone-stays (zonePlace k) (omega arith)))
-
-    pub windows-stay : byteAt (placed s at bs) 4 ≡ byteAt s 4 → windowsIn (placed s at bs) ≡ windowsIn s
-    unfolding windowsIn
-    windows-stay e =
-        rw e (entries-alike (λ k. windowAt (placed s at bs) (windowPlace k)) (λ k. windowAt s (windowPlace k)) 0 (windowCount s) (λ k. window-stays (windowPlace k) (omega arith)))
-
-    pub lists-stay : Apart at n 0 5 → listsIn (placed s at bs) ≡ listsIn s
-    lists-stay a = rw (zones-stay (byte-apart a 3 (omega arith) (omega arith)), windows-stay (byte-apart a 4 (omega arith) (omega arith)))
+  pub image-apart : clockPlace ≤ at → isImage s ≡ true → isImage (placed s at bs) ≡ true
+  image-apart h i =
+      let m = image-is s i in
+      is-image (placed s at bs)
+      (record {
+        size = omega (arith, frame.length-placed s at bs, m .size);
+        marked = rw (frame.word-before s at bs 4 magicPlace (omega arith)) (m .marked);
+      })

@@ -1,5 +1,5 @@
 -- What holds of images; the proofs stand in proofs/.
-use mathlib.Core.Bool.{Bool, true}
+use mathlib.Core.Bool.{Bool, true, not, _||_, cond}
 use mathlib.Core.List.{List}
 use mathlib.Core.Option.{none, some}
 use mathlib.Core.Path.{_≡_}
@@ -11,9 +11,10 @@ use Rattle.model.specs.Clock.{Clock, fresh}
 use Rattle.model.specs.Lists.{empty}
 use Rattle.model.specs.Timer.{Timer}
 use Rattle.model.specs.Retries.{Client, newClient}
-use Rattle.word.specs.Place.{byteAt, wordAt}
-use Rattle.image.specs.Layout.{imageSize, isImage, listsIn, withGeneration}
-use Rattle.image.specs.Parts.{clockIn, timerIn, clientIn, rulesIn, orZero, fabricOf, nodeOf, endpointOf, bit, limitOf, withClock, withTimer, withClient, newImage}
+use Rattle.model.specs.Output.{orZero}
+use Rattle.table.specs.Layout.{tableSize, storeIn}
+use Rattle.image.specs.Layout.{imageSize, isImage, tableIn, withTable}
+use Rattle.image.specs.Parts.{clockIn, timerIn, clientIn, hasLists, fabricOf, nodeOf, endpointOf, limitOf, withClock, withTimer, withClient, newImage}
 
 -- ## Numbers that fit their places
 
@@ -37,6 +38,7 @@ pub record ClientFits (c : Client) : Type 0 where
 
 -- ## What is written reads back
 
+-- `clock-back`, `timer-back` and `client-back` in proofs/Back.antt
 abbrev pub ClockBack : Type 0
 ClockBack = (s : List ℕ) (c : Clock) → isImage s ≡ true → ClockFits c → clockIn (withClock s c) ≡ c
 
@@ -46,60 +48,58 @@ TimerBack = (s : List ℕ) (t : Timer) → isImage s ≡ true → TimerFits t �
 abbrev pub ClientBack : Type 0
 ClientBack = (s : List ℕ) (c : Client) → isImage s ≡ true → ClientFits c → clientIn (withClient s c) ≡ c
 
-abbrev pub GenerationBack : Type 0
-GenerationBack = (s : List ℕ) (g : ℕ) → isImage s ≡ true → g < 2 ^ 32 → wordAt 4 (withGeneration s g) 12 ≡ g
+-- ## The other parts stay, and an image stays one, whatever is written
 
--- ## The other parts stay
-
--- the list store: whether there is one, its limits, its lists and its generation
-pub record SameStore (s t : List ℕ) : Type 0 where
-  pub mark : byteAt t 0 ≡ byteAt s 0
-  pub rules : rulesIn t ≡ rulesIn s
-  pub lists : listsIn t ≡ listsIn s
-  pub generation : wordAt 4 t 12 ≡ wordAt 4 s 12
-
--- everything but the lists and the generation
-pub record SameRest (s t : List ℕ) : Type 0 where
-  pub mark : byteAt t 0 ≡ byteAt s 0
-  pub rules : rulesIn t ≡ rulesIn s
-  pub clock : clockIn t ≡ clockIn s
-  pub timer : timerIn t ≡ timerIn s
-  pub client : clientIn t ≡ clientIn s
-
+-- `clock-written`, `timer-written`, `client-written` and `table-written` in proofs/Alone.antt
 pub record ClockAlone (s t : List ℕ) : Type 0 where
-  pub store : SameStore s t
+  pub there : hasLists t ≡ hasLists s
+  pub table : tableIn t ≡ tableIn s
   pub timer : timerIn t ≡ timerIn s
   pub client : clientIn t ≡ clientIn s
+  pub long : length t ≡ length s
   pub image : isImage t ≡ true
 
 abbrev pub ClockWritten : Type 0
 ClockWritten = (s : List ℕ) (c : Clock) → isImage s ≡ true → ClockAlone s (withClock s c)
 
 pub record TimerAlone (s t : List ℕ) : Type 0 where
-  pub store : SameStore s t
+  pub there : hasLists t ≡ hasLists s
+  pub table : tableIn t ≡ tableIn s
   pub clock : clockIn t ≡ clockIn s
   pub client : clientIn t ≡ clientIn s
+  pub long : length t ≡ length s
   pub image : isImage t ≡ true
 
 abbrev pub TimerWritten : Type 0
 TimerWritten = (s : List ℕ) (t : Timer) → isImage s ≡ true → TimerAlone s (withTimer s t)
 
 pub record ClientAlone (s t : List ℕ) : Type 0 where
-  pub store : SameStore s t
+  pub there : hasLists t ≡ hasLists s
+  pub table : tableIn t ≡ tableIn s
   pub clock : clockIn t ≡ clockIn s
   pub timer : timerIn t ≡ timerIn s
+  pub long : length t ≡ length s
   pub image : isImage t ≡ true
 
 abbrev pub ClientWritten : Type 0
 ClientWritten = (s : List ℕ) (c : Client) → isImage s ≡ true → ClientAlone s (withClient s c)
 
-pub record GenerationAlone (s t : List ℕ) : Type 0 where
-  pub rest : SameRest s t
-  pub lists : listsIn t ≡ listsIn s
+-- a table that is written reads back
+pub record TableAlone (s t u : List ℕ) : Type 0 where
+  pub there : hasLists t ≡ hasLists s
+  pub table : tableIn t ≡ u
+  pub clock : clockIn t ≡ clockIn s
+  pub timer : timerIn t ≡ timerIn s
+  pub client : clientIn t ≡ clientIn s
+  pub long : length t ≡ length s
   pub image : isImage t ≡ true
 
-abbrev pub GenerationWritten : Type 0
-GenerationWritten = (s : List ℕ) (g : ℕ) → isImage s ≡ true → GenerationAlone s (withGeneration s g)
+abbrev pub TableWritten : Type 0
+TableWritten = (s u : List ℕ) → isImage s ≡ true → length u ≡ tableSize → TableAlone s (withTable s u) u
+
+-- an image has room for its table: `table-long` in proofs/Alone.antt
+abbrev pub TableLong : Type 0
+TableLong = (s : List ℕ) → isImage s ≡ true → length (tableIn s) ≡ tableSize
 
 -- ## A new image
 
@@ -107,16 +107,15 @@ GenerationWritten = (s : List ℕ) (g : ℕ) → isImage s ≡ true → Generati
 abbrev pub limitsAllowed : Bool → ℕ → ℕ → Type 0
 limitsAllowed there zones windows = there ≡ true → allowed (record { zoneLimit = zones; windowLimit = windows }) ≡ true
 
-pub record Fresh (t : List ℕ) (there : Bool) (zones windows build period : ℕ) : Type 0 where
+pub record Fresh (t : List ℕ) (lists : Bool) (zones windows build period : ℕ) : Type 0 where
   pub image : isImage t ≡ true
-  pub mark : byteAt t 0 ≡ bit there
-  pub rules : rulesIn t ≡ record { zoneLimit = limitOf there zones; windowLimit = limitOf there windows }
-  pub lists : listsIn t ≡ empty
-  pub generation : wordAt 4 t 12 ≡ 0
+  pub there : hasLists t ≡ lists
+  pub store : storeIn (tableIn t) ≡ record { rules = record { zoneLimit = limitOf lists zones; windowLimit = limitOf lists windows }; lists = empty; generation = 0 }
   pub clock : clockIn t ≡ fresh build
   pub timer : timerIn t ≡ none
   pub client : clientIn t ≡ newClient period
 
+-- `new-is-fresh` in proofs/New.antt
 abbrev pub NewIsFresh : Type 0
 NewIsFresh =
     (s : List ℕ) (there : Bool) (zones windows build period : ℕ)

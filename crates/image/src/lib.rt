@@ -1,3 +1,4 @@
-// The image of a controller, which its caller lends: 1,120 bytes, each part at a fixed place.
+// The image of a controller, which its caller lends: 1,136 bytes, each part at a fixed place.
+pub mod codes;
 pub mod parts;
 pub mod place;

@@ -1,19 +1,29 @@
 // The clock, the timer and the client of an image, read and written.
-ghost use mathlib.Core.Bool.{Bool, true};
 ghost use mathlib.Core.List.{[], _∷_, _++_};
 ghost use mathlib.Core.Path.{_≡_};
 ghost use Prim.Native.Nat.{_+_, _≤_};
-ghost use lib.ListN.{length, replicate};
+ghost use lib.ListN.{length};
 ghost use Rattle.model.specs.Basics.{isSome};
 ghost use Rattle.model.specs.Bytes.{bytes, bitsOf};
 ghost use Rattle.model.specs.Maybe.{optionU64};
+ghost use Rattle.model.specs.Output.{orZero};
 ghost use Rattle.model.specs.Numbers.{granularityOf, sourceOf};
 ghost use Rattle.rtc.specs.Meaning.{clockOf, optionSource};
 ghost use Rattle.transition_timer.specs.Meaning.{timerOf};
 ghost use Rattle.time_sync_client.specs.Meaning.{clientOf};
+ghost use Rattle.table.specs.Layout.{maybeAt};
+ghost use Rattle.table.specs.Layout as T;
 ghost use Rattle.word.specs.Place.{byteAt, put};
-ghost use Rattle.image.specs.Layout.{maybeAt};
-ghost use Rattle.image.specs.Parts.{orNoTime, orNone, clockIn, timerIn, clientIn, trustedIn, bit, orZero, fabricOf, nodeOf, endpointOf, clockBytes, timerBytes, clientBytes, limitOf, newBytes, withClock, withTimer, withClient, newImage};
+ghost use Rattle.image.specs.Layout.{imageSize, tablePlace};
+ghost use Rattle.image.specs.Parts.{orNoTime, orNone, trustedAt, clockAt, timerAt, clientAt, clockIn, timerIn, clientIn, bit, fabricOf, nodeOf, endpointOf, clockBytes, timerBytes, clientBytes, limitOf, newBytes, withClock, withTimer, withClient, newImage};
+use crate::place::CLIENT;
+use crate::place::CLOCK;
+use crate::place::MAGIC;
+use crate::place::MAGIC_PLACE;
+use crate::place::SIZE;
+use crate::place::STORE;
+use crate::place::TABLE;
+use crate::place::TIMER;
 use crate::place::mark_at;
 use model::GranularityRead;
 use model::MaybeU64;
@@ -31,23 +41,73 @@ use word::or_zero::u8_at;
 use word::or_zero::u16_at;
 use word::or_zero::u64_at;
 
-// ## Read
+// Inside the clock, whose first byte is the granularity.
+pub const SOURCE: usize = 1;
+
+pub const SET: usize = 2;
+
+pub const TRUSTED: usize = 3;
+
+pub const FABRIC: usize = 4;
+
+const BLANK: usize = 5;
+
+pub const ENDPOINT: usize = 6;
+
+pub const UTC: usize = 8;
+
+const PERSISTED: usize = 16;
+
+pub const ANCHOR: usize = 24;
+
+pub const NODE: usize = 32;
+
+const CLOCK_SIZE: usize = 40;
+
+// Inside the client, whose first number is the period.
+const RETRY: usize = 8;
+
+const MISSING_AT: usize = 16;
+
+const FAILURE_AT: usize = 24;
+
+const MISSED: usize = 32;
+
+const FAILED: usize = 33;
+
+const CLIENT_REST: usize = 36;
+
+const CLIENT_SIZE: usize = 40;
+
+// Inside the timer, whose first byte is the mark that it has seen anything.
+const ACTIVE: usize = 1;
+
+const USABLE: usize = 2;
+
+const OFFSET: usize = 4;
+
+const TIMER_SIZE: usize = 8;
+
+// How many bytes a moment has.
+const MOMENT: usize = 8;
+
+// ## Read: any place up to the end of an image
 
 // The granularity; a code out of range stands for NoTime.
-fn granularity_in(s: &[u8]) -> TimeGranularity
-    ensures { λ r. ⌜ r ≡ orNoTime (granularityOf (byteAt (now (s .entry)) 16)) ⌝ }
+fn granularity_at(s: &[u8], at: usize) -> TimeGranularity
+    ensures { λ r. ⌜ r ≡ orNoTime (granularityOf (byteAt (now (s .entry)) at)) ⌝ }
 {
-    match model::granularity_of(u8_at(s, 16)) {
+    match model::granularity_of(u8_at(s, at)) {
         GranularityRead::Is(granularity) => granularity,
         GranularityRead::Bad => TimeGranularity::NoTime,
     }
 }
 
 // The time source; a code out of range stands for None.
-fn source_in(s: &[u8]) -> TimeSource
-    ensures { λ r. ⌜ r ≡ orNone (sourceOf (byteAt (now (s .entry)) 17)) ⌝ }
+fn source_at(s: &[u8], at: usize) -> TimeSource
+    ensures { λ r. ⌜ r ≡ orNone (sourceOf (byteAt (now (s .entry)) at)) ⌝ }
 {
-    match model::source_of(u8_at(s, 17)) {
+    match model::source_of(u8_at(s, at)) {
         SourceRead::Is(source) => source,
         SourceRead::Bad => TimeSource::None,
     }
@@ -63,58 +123,83 @@ fn maybe_at(s: &[u8], mark: usize, at: usize) -> MaybeU64
     MaybeU64::Nothing
 }
 
-// The trusted time source.
-fn trusted_in(s: &[u8]) -> MaybeSource
-    ensures { λ r. ⌜ optionSource r ≡ trustedIn (now (s .entry)) ⌝ }
+// The trusted time source of the clock at a place.
+fn trusted_at(s: &[u8], at: usize) -> MaybeSource
+    requires { ⌜ at ≤ imageSize ⌝ }
+    ensures { λ r. ⌜ optionSource r ≡ trustedAt (now (s .entry)) at ⌝ }
 {
-    if mark_at(s, 19) {
+    if mark_at(s, at + TRUSTED) {
         return MaybeSource::Is(TrustedTimeSource {
-            fab_idx: u8_at(s, 20),
-            node_id: u64_at(s, 48),
-            endpoint: u16_at(s, 22),
+            fab_idx: u8_at(s, at + FABRIC),
+            node_id: u64_at(s, at + NODE),
+            endpoint: u16_at(s, at + ENDPOINT),
         });
     }
     MaybeSource::Nothing
+}
+
+// The clock at a place.
+fn rtc_at(s: &[u8], at: usize) -> Rtc
+    requires { ⌜ at ≤ imageSize ⌝ }
+    ensures { λ r. ⌜ clockOf r ≡ clockAt (now (s .entry)) at ⌝ }
+{
+    Rtc {
+        utc_us: u64_at(s, at + UTC),
+        utc_us_persisted: u64_at(s, at + PERSISTED),
+        granularity: granularity_at(s, at),
+        source: source_at(s, at + SOURCE),
+        anchor: maybe_at(s, at + SET, at + ANCHOR),
+        trusted_time_source: trusted_at(s, at),
+    }
+}
+
+// What the timer at a place last saw.
+fn seen_at(s: &[u8], at: usize) -> LastSeen
+    requires { ⌜ at ≤ imageSize ⌝ }
+    ensures { λ r. ⌜ timerOf r ≡ timerAt (now (s .entry)) at ⌝ }
+{
+    if mark_at(s, at) {
+        return LastSeen::Saw(Seen {
+            offset: i32_at(s, at + OFFSET),
+            active: mark_at(s, at + ACTIVE),
+            usable: mark_at(s, at + USABLE),
+        });
+    }
+    LastSeen::Nothing
+}
+
+// The client at a place.
+fn client_at(s: &[u8], at: usize) -> TimeSyncClient
+    requires { ⌜ at ≤ imageSize ⌝ }
+    ensures { λ r. ⌜ clientOf r ≡ clientAt (now (s .entry)) at ⌝ }
+{
+    TimeSyncClient {
+        period: u64_at(s, at),
+        retry: u64_at(s, at + RETRY),
+        missing_source_at: maybe_at(s, at + MISSED, at + MISSING_AT),
+        time_failure_at: maybe_at(s, at + FAILED, at + FAILURE_AT),
+    }
 }
 
 // The clock.
 pub fn rtc_in(s: &[u8]) -> Rtc
     ensures { λ r. ⌜ clockOf r ≡ clockIn (now (s .entry)) ⌝ }
 {
-    Rtc {
-        utc_us: u64_at(s, 24),
-        utc_us_persisted: u64_at(s, 32),
-        granularity: granularity_in(s),
-        source: source_in(s),
-        anchor: maybe_at(s, 18, 40),
-        trusted_time_source: trusted_in(s),
-    }
+    rtc_at(s, CLOCK)
 }
 
 // What the timer last saw.
 pub fn seen_in(s: &[u8]) -> LastSeen
     ensures { λ r. ⌜ timerOf r ≡ timerIn (now (s .entry)) ⌝ }
 {
-    if mark_at(s, 5) {
-        return LastSeen::Saw(Seen {
-            offset: i32_at(s, 8),
-            active: mark_at(s, 6),
-            usable: mark_at(s, 7),
-        });
-    }
-    LastSeen::Nothing
+    seen_at(s, TIMER)
 }
 
 // The client.
 pub fn client_in(s: &[u8]) -> TimeSyncClient
     ensures { λ r. ⌜ clientOf r ≡ clientIn (now (s .entry)) ⌝ }
 {
-    TimeSyncClient {
-        period: u64_at(s, 56),
-        retry: u64_at(s, 64),
-        missing_source_at: maybe_at(s, 88, 72),
-        time_failure_at: maybe_at(s, 89, 80),
-    }
+    client_at(s, CLIENT)
 }
 
 // ## What is written of a value that may be missing
@@ -172,52 +257,63 @@ fn trusted_or_zeros(t: MaybeSource) -> TrustedTimeSource
 
 // ## Written
 
-// Writes four numbers of 8 bytes, one after another.
-fn put_four(s: &mut [u8], at: usize, a: u64, b: u64, c: u64, d: u64)
+// Writes four bytes, one after another.
+fn put_bytes(s: &mut [u8], at: usize, a: u8, b: u8, c: u8, d: u8)
+    requires { ⌜ at + 4 ≤ length (now s) ⌝ }
+    ensures { λ _. ⌜ now (s .exit) ≡ put (now (s .entry)) at (a ∷ b ∷ c ∷ d ∷ []) ⌝ }
+{
+    s[at] = a;
+    s[at + 1] = b;
+    s[at + 2] = c;
+    s[at + 3] = d;
+}
+
+// Writes four moments, one after another.
+fn put_moments(s: &mut [u8], at: usize, a: u64, b: u64, c: u64, d: u64)
     requires { ⌜ at + 32 ≤ length (now s) ⌝ }
     ensures { λ _. ⌜ now (s .exit) ≡ put (now (s .entry)) at (bytes 8 a ++ (bytes 8 b ++ (bytes 8 c ++ bytes 8 d))) ⌝ }
 {
+    let second = at + MOMENT;
+    let third = second + MOMENT;
+    let fourth = third + MOMENT;
     word::put_u64(s, at, a);
-    word::put_u64(s, at + 8, b);
-    word::put_u64(s, at + 16, c);
-    word::put_u64(s, at + 24, d);
+    word::put_u64(s, second, b);
+    word::put_u64(s, third, c);
+    word::put_u64(s, fourth, d);
 }
 
-// Writes the six bytes at the front of the clock.
-fn put_codes(s: &mut [u8], granularity: u8, source: u8, set: u8, trusted: u8, fabric: u8)
-    requires { ⌜ 22 ≤ length (now s) ⌝ }
-    ensures { λ _. ⌜ now (s .exit) ≡ put (now (s .entry)) 16 (granularity ∷ source ∷ set ∷ trusted ∷ fabric ∷ 0 ∷ []) ⌝ }
+// Writes the fabric and the endpoint of the clock at a place.
+fn put_fabric(s: &mut [u8], at: usize, fabric: u8, endpoint: u16)
+    requires { ⌜ at + 8 ≤ length (now s) ⌝ }
+    ensures { λ _. ⌜ now (s .exit) ≡ put (now (s .entry)) (at + 4) (fabric ∷ 0 ∷ bytes 2 endpoint) ⌝ }
 {
-    s[16] = granularity;
-    s[17] = source;
-    s[18] = set;
-    s[19] = trusted;
-    s[20] = fabric;
-    s[21] = 0;
+    s[at + FABRIC] = fabric;
+    s[at + BLANK] = 0;
+    word::or_zero::put_u16(s, at + ENDPOINT, endpoint);
 }
 
-// Writes the bytes of the clock.
-fn write_clock(s: &mut [u8], rtc: Rtc)
-    requires { ⌜ 56 ≤ length (now s) ⌝ }
-    ensures { λ _. ⌜ now (s .exit) ≡ put (now (s .entry)) 16 (clockBytes (clockOf rtc)) ⌝ }
+// Writes the clock at a place.
+fn write_clock(s: &mut [u8], at: usize, rtc: Rtc)
+    requires { ⌜ at + 40 ≤ length (now s) ⌝ }
+    ensures { λ _. ⌜ now (s .exit) ≡ put (now (s .entry)) at (clockBytes (clockOf rtc)) ⌝ }
 {
     let granularity = rtc.granularity;
     let source = rtc.source;
     let anchor = rtc.anchor;
     let trusted = rtc.trusted_time_source;
     let t = trusted_or_zeros(trusted);
-    put_codes(
+    put_bytes(
         s,
+        at,
         model::granularity_number(granularity),
         model::source_number(source),
         mark_of(anchor),
         trusted_mark(trusted),
-        t.fab_idx,
     );
-    word::or_zero::put_u16(s, 22, t.endpoint);
-    put_four(
+    put_fabric(s, at, t.fab_idx, t.endpoint);
+    put_moments(
         s,
-        24,
+        at + UTC,
         rtc.utc_us,
         rtc.utc_us_persisted,
         number_of(anchor),
@@ -229,71 +325,69 @@ fn write_clock(s: &mut [u8], rtc: Rtc)
 pub fn put_rtc(s: &mut [u8], rtc: Rtc)
     ensures { λ _. ⌜ now (s .exit) ≡ withClock (now (s .entry)) (clockOf rtc) ⌝ }
 {
-    if word::in_bounds(s, 16, 40) {
-        write_clock(s, rtc);
+    if word::in_bounds(s, CLOCK, CLOCK_SIZE) {
+        write_clock(s, CLOCK, rtc);
     }
 }
 
-// Writes the bytes of the timer.
-fn put_timer(s: &mut [u8], saw: u8, active: u8, usable: u8, offset: i32)
-    requires { ⌜ 12 ≤ length (now s) ⌝ }
-    ensures { λ _. ⌜ now (s .exit) ≡ put (now (s .entry)) 5 (saw ∷ active ∷ usable ∷ bytes 4 (bitsOf offset)) ⌝ }
+// Writes the marks and the offset of the timer at a place.
+fn put_timer(s: &mut [u8], at: usize, saw: u8, active: u8, usable: u8, offset: i32)
+    requires { ⌜ at + 8 ≤ length (now s) ⌝ }
+    ensures { λ _. ⌜ now (s .exit) ≡ put (now (s .entry)) at (saw ∷ active ∷ usable ∷ 0 ∷ bytes 4 (bitsOf offset)) ⌝ }
 {
-    s[5] = saw;
-    s[6] = active;
-    s[7] = usable;
-    word::put_i32(s, 8, offset);
+    put_bytes(s, at, saw, active, usable, 0);
+    word::put_i32(s, at + OFFSET, offset);
 }
 
-// Writes the timer.
-fn write_timer(s: &mut [u8], seen: LastSeen)
-    requires { ⌜ 12 ≤ length (now s) ⌝ }
-    ensures { λ _. ⌜ now (s .exit) ≡ put (now (s .entry)) 5 (timerBytes (timerOf seen)) ⌝ }
+// Writes the timer at a place.
+fn write_timer(s: &mut [u8], at: usize, seen: LastSeen)
+    requires { ⌜ at + 8 ≤ length (now s) ⌝ }
+    ensures { λ _. ⌜ now (s .exit) ≡ put (now (s .entry)) at (timerBytes (timerOf seen)) ⌝ }
 {
     match seen {
         LastSeen::Nothing => {
-            put_timer(s, 0, 0, 0, 0);
+            put_timer(s, at, 0, 0, 0, 0);
         }
         LastSeen::Saw(v) => {
-            put_timer(s, 1, bit_of(v.active), bit_of(v.usable), v.offset);
+            put_timer(s, at, 1, bit_of(v.active), bit_of(v.usable), v.offset);
         }
     }
 }
 
-// Writes what the timer saw.
+// Writes what the timer saw; on a slice that is too short nothing is written.
 pub fn put_seen(s: &mut [u8], seen: LastSeen)
     ensures { λ _. ⌜ now (s .exit) ≡ withTimer (now (s .entry)) (timerOf seen) ⌝ }
 {
-    if word::in_bounds(s, 5, 7) {
-        write_timer(s, seen);
+    if word::in_bounds(s, TIMER, TIMER_SIZE) {
+        write_timer(s, TIMER, seen);
     }
 }
 
-// Writes the bytes of the client.
-fn write_client(s: &mut [u8], client: TimeSyncClient)
-    requires { ⌜ 90 ≤ length (now s) ⌝ }
-    ensures { λ _. ⌜ now (s .exit) ≡ put (now (s .entry)) 56 (clientBytes (clientOf client)) ⌝ }
+// Writes the client at a place.
+fn write_client(s: &mut [u8], at: usize, client: TimeSyncClient)
+    requires { ⌜ at + 40 ≤ length (now s) ⌝ }
+    ensures { λ _. ⌜ now (s .exit) ≡ put (now (s .entry)) at (clientBytes (clientOf client)) ⌝ }
 {
     let missing = client.missing_source_at;
     let failure = client.time_failure_at;
-    put_four(
+    put_moments(
         s,
-        56,
+        at,
         client.period,
         client.retry,
         number_of(missing),
         number_of(failure),
     );
-    s[88] = mark_of(missing);
-    s[89] = mark_of(failure);
+    put_bytes(s, at + MISSED, mark_of(missing), mark_of(failure), 0, 0);
+    word::put_u32(s, at + CLIENT_REST, 0);
 }
 
-// Writes the client.
+// Writes the client; on a slice that is too short nothing is written.
 pub fn put_client(s: &mut [u8], client: TimeSyncClient)
     ensures { λ _. ⌜ now (s .exit) ≡ withClient (now (s .entry)) (clientOf client) ⌝ }
 {
-    if word::in_bounds(s, 56, 34) {
-        write_client(s, client);
+    if word::in_bounds(s, CLIENT, CLIENT_SIZE) {
+        write_client(s, CLIENT, client);
     }
 }
 
@@ -306,48 +400,33 @@ fn limit_of(there: bool, n: u8) -> u8
     if there { n } else { 0 }
 }
 
-// Writes the mark of the list store, its limits and no counts.
-fn put_front(s: &mut [u8], lists: bool, zones: u8, windows: u8)
-    requires { ⌜ 5 ≤ length (now s) ⌝ }
-    ensures { λ _. ⌜ now (s .exit) ≡ put (now (s .entry)) 0 (bit lists ∷ limitOf lists zones ∷ limitOf lists windows ∷ 0 ∷ 0 ∷ []) ⌝ }
+// Writes an empty table with these limits.
+fn put_table(s: &mut [u8], zones: u8, windows: u8)
+    requires { ⌜ imageSize ≤ length (now s) ⌝ }
+    ensures { λ _. ⌜ now (s .exit) ≡ put (now (s .entry)) tablePlace (T.newBytes (record { zoneLimit = zones; windowLimit = windows })) ⌝ }
 {
-    s[0] = bit_of(lists);
-    s[1] = limit_of(lists, zones);
-    s[2] = limit_of(lists, windows);
-    s[3] = 0;
-    s[4] = 0;
-}
-
-// Writes zeros behind the client.
-fn put_zeros(s: &mut [u8])
-    requires { ⌜ 1120 ≤ length (now s) ⌝ }
-    ensures { λ _. ⌜ now (s .exit) ≡ put (now (s .entry)) 90 (replicate 1030 0) ⌝ }
-{
-    let mut i: usize = 0;
-    while i < 1030 {
-        s[90 + i] = 0;
-        i += 1;
-    }
+    let table = &mut s[TABLE..SIZE];
+    table::layout::put_new(table, zones, windows);
 }
 
 // Writes the bytes of a new image.
 fn write_new(s: &mut [u8], lists: bool, zones: u8, windows: u8, build: u64, period: u64)
-    requires { ⌜ 1120 ≤ length (now s) ⌝ }
+    requires { ⌜ imageSize ≤ length (now s) ⌝ }
     ensures { λ _. ⌜ now (s .exit) ≡ put (now (s .entry)) 0 (newBytes lists zones windows build period) ⌝ }
 {
-    put_front(s, lists, zones, windows);
-    write_timer(s, LastSeen::Nothing);
-    word::put_u32(s, 12, 0);
-    write_clock(s, Rtc::new(build));
-    write_client(s, TimeSyncClient::new(period));
-    put_zeros(s);
+    word::put_u32(s, MAGIC_PLACE, MAGIC);
+    put_bytes(s, STORE, bit_of(lists), 0, 0, 0);
+    write_clock(s, CLOCK, Rtc::new(build));
+    write_client(s, CLIENT, TimeSyncClient::new(period));
+    write_timer(s, TIMER, LastSeen::Nothing);
+    put_table(s, limit_of(lists, zones), limit_of(lists, windows));
 }
 
-// Writes a new image over the front of the slice; without a list store its limits are 0.
+// Writes a new image over the front of the slice, where it fits; without a list store its limits are 0.
 pub fn put_new(s: &mut [u8], lists: bool, zones: u8, windows: u8, build: u64, period: u64)
     ensures { λ _. ⌜ now (s .exit) ≡ newImage (now (s .entry)) lists zones windows build period ⌝ }
 {
-    if word::in_bounds(s, 0, 1120) {
+    if word::in_bounds(s, MAGIC_PLACE, SIZE) {
         write_new(s, lists, zones, windows, build, period);
     }
 }

@@ -1,3 +1,3 @@
 pub mod Sizes
 pub mod Held
-pub mod Shows
+pub mod One

@@ -7,15 +7,14 @@ ghost use Rattle.model.specs.Answers.{answers};
 ghost use Rattle.model.specs.Clock.{reliable};
 ghost use Rattle.model.specs.Lookups.{lastActiveWindow, offsetOf, usable};
 ghost use Rattle.model.specs.LocalTime.{held, orZero, shown, localMoment, localTime};
-ghost use Rattle.model.specs.Maybe.{optionI32};
-ghost use Rattle.record.specs.Data.{listsOf};
+ghost use Rattle.model.specs.Maybe.{maybeI32, optionI32};
 ghost use Rattle.rtc.specs.Meaning.{readingOf};
+ghost use Rattle.table.specs.Layout.{listsIn};
 ghost use Rattle.local_time.specs.Meaning.{localTimeOf};
 use lookups::windows::dst_usable;
 use lookups::windows::last_active_dst_offset;
 use lookups::zones::zone_offset;
 use model::MaybeI32;
-use record::TimeZoneStoreData;
 use rtc::UtcTime;
 
 // Null, the refusal AttributeNotFound, or a moment.
@@ -61,61 +60,61 @@ fn moved(utc: u64, by: i64) -> u64
 }
 
 // A moment moved by a zone's offset and by a window's, where there is one.
-pub fn shown_by(utc: u64, zone: i32, window: MaybeI32) -> u64
+fn shown_by(utc: u64, zone: i32, window: MaybeI32) -> u64
     ensures { λ r. ⌜ r ≡ held (pos utc +ℤ ((zone +ℤ orZero (optionI32 window)) *ℤ pos 1000000)) ⌝ }
 {
     moved(utc, micros(zone, or_zero(window)))
 }
 
-// The offset of the last active window, 0 where none is active.
-fn window_offset(lists: TimeZoneStoreData, utc: u64) -> i32
-    ensures { λ r. ⌜ r ≡ orZero (offsetOf (lastActiveWindow (listsOf lists) utc)) ⌝ }
+// The window's part of local time: the offset of the last active window, not of the first.
+fn window_offset(table: &[u8], utc: u64) -> MaybeI32
+    ensures { λ r. ⌜ r ≡ maybeI32 (offsetOf (lastActiveWindow (listsIn (now (table .entry))) utc)) ⌝ }
 {
-    or_zero(last_active_dst_offset(lists, utc))
+    last_active_dst_offset(table, utc)
 }
 
 // UTC moved by both offsets.
-fn shown_at(lists: TimeZoneStoreData, utc: u64) -> u64
-    ensures { λ r. ⌜ r ≡ shown (listsOf lists) utc ⌝ }
+fn shown_at(table: &[u8], utc: u64) -> u64
+    ensures { λ r. ⌜ r ≡ shown (listsIn (now (table .entry))) utc ⌝ }
 {
-    let zone = zone_offset(lists, utc);
-    let window = window_offset(lists, utc);
-    moved(utc, micros(zone, window))
+    let zone = zone_offset(table, utc);
+    let window = window_offset(table, utc);
+    shown_by(utc, zone, window)
 }
 
 // Whether a moment is shown: some window is usable, active or not.
-fn is_shown(lists: TimeZoneStoreData, utc: u64) -> bool
-    ensures { λ r. ⌜ r ≡ usable (listsOf lists) utc ⌝ }
+fn is_shown(table: &[u8], utc: u64) -> bool
+    ensures { λ r. ⌜ r ≡ usable (listsIn (now (table .entry))) utc ⌝ }
 {
-    dst_usable(lists, utc)
+    dst_usable(table, utc)
 }
 
 // What the lists show: null where no window is usable.
-fn in_lists(lists: TimeZoneStoreData, utc: u64) -> LocalTime
-    ensures { λ r. ⌜ localTimeOf r ≡ answers (localMoment (listsOf lists) utc) ⌝ }
+fn in_lists(table: &[u8], utc: u64) -> LocalTime
+    ensures { λ r. ⌜ localTimeOf r ≡ answers (localMoment (listsIn (now (table .entry))) utc) ⌝ }
 {
-    if is_shown(lists, utc) {
-        return LocalTime::At(shown_at(lists, utc));
+    if is_shown(table, utc) {
+        return LocalTime::At(shown_at(table, utc));
     }
     LocalTime::Null
 }
 
 // Local time at a reliable moment.
-fn at_moment(utc: u64, there: bool, lists: TimeZoneStoreData) -> LocalTime
-    ensures { λ r. ⌜ localTimeOf r ≡ localTime (reliable utc) (cond there (some (listsOf lists)) none) ⌝ }
+fn at_moment(utc: u64, there: bool, table: &[u8]) -> LocalTime
+    ensures { λ r. ⌜ localTimeOf r ≡ localTime (reliable utc) (cond there (some (listsIn (now (table .entry)))) none) ⌝ }
 {
     if there {
-        return in_lists(lists, utc);
+        return in_lists(table, utc);
     }
     LocalTime::NotFound
 }
 
-// Local time at a reading of the clock; `there` says whether there is a list store.
-pub fn local_time(reading: UtcTime, there: bool, lists: TimeZoneStoreData) -> LocalTime
-    ensures { λ r. ⌜ localTimeOf r ≡ localTime (readingOf reading) (cond there (some (listsOf lists)) none) ⌝ }
+// Local time at a reading of the clock: an unreliable one comes first. The table is the list store, where `there` says that there is one.
+pub fn local_time(reading: UtcTime, there: bool, table: &[u8]) -> LocalTime
+    ensures { λ r. ⌜ localTimeOf r ≡ localTime (readingOf reading) (cond there (some (listsIn (now (table .entry)))) none) ⌝ }
 {
     match reading {
         UtcTime::LastKnown(_) => LocalTime::Null,
-        UtcTime::Reliable(utc) => at_moment(utc, there, lists),
+        UtcTime::Reliable(utc) => at_moment(utc, there, table),
     }
 }

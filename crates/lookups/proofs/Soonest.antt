@@ -1,117 +1,96 @@
--- The soonest moment after now, as a loop finds it: the best so far, and what is left.
-use mathlib.Core.Path.{_≡_, refl, _∙_, ap}
-use mathlib.Core.List.{List, [], _∷_, _++_, map}
-use Prim.Native.Nat.{ℕ, zero, suc, _+_, _≤_, _<_, min}
+-- The soonest moment after now, as a loop finds it in the places of the entries: the best so far, and what is left.
+use mathlib.Core.List.{List, [], _∷_, _++_}
+use mathlib.Core.Option.{Option, none, some}
+use mathlib.Core.Path.{_≡_, refl, sym, _∙_, ap}
+use Prim.Native.Nat.{ℕ, _+_, _-_, _≤_, _<_, min}
 use native.Mathlib.Omega.{arith}
 use lib.Dec.{ltb}
-use lib.ListN.{length, getD, take, drop, length-take}
-use lib.Seq.{take-all}
 use borrow.Author.Tests.{ltb-true, le-ltb, ne-eqb}
-use Rattle.model.specs.declared.MaybeU64.{MaybeU64}
 use Rattle.model.specs.declared.MaybeU64.the-variants as U
 use Rattle.model.specs.Basics.{keep, leastOf, smallest}
-use Rattle.model.specs.Lookups.{later, endThen, zoneStarts, windowBounds}
-use Rattle.model.specs.Maybe.{maybeU64, optionU64}
+use Rattle.model.specs.Lists.{Zone, Window}
+use Rattle.model.specs.Lookups.{later, zoneStarts, windowBounds, endThen}
+use Rattle.model.specs.Maybe.{maybeU64}
 use Rattle.model.proofs.Facts.{by-test}
-use Rattle.record.specs.declared.TimeZoneOwned.{TimeZoneOwned}
-use Rattle.record.specs.declared.DSTOffsetEntry.{DSTOffsetEntry}
-use Rattle.record.specs.Data.{zoneOf, windowOf}
+use Rattle.table.specs.Layout.{entriesFrom}
 use Rattle.lookups.specs.Transitions.{endOrZero, sooner, soonest, momentOf}
-use Rattle.lookups.proofs.Left.{next, over}
+use Rattle.lookups.proofs.Entries.{next, over}
 
 least-min : (b t : ℕ) (ts : List ℕ) → leastOf (min b t) ts ≡ leastOf b (t ∷ ts)
 unfolding leastOf
 least-min b t [] = refl
 least-min b t (y ∷ ys) = omega arith
 
-take-less : {A : Type 0} (k n : ℕ) (l : List A) → take (min n k) l ≡ take k (take n l)
-take-less zero n l = let e : min n 0 ≡ 0 = omega arith in rw e
-take-less (suc k) zero l = let e : min 0 (suc k) ≡ 0 = omega arith in rw e
-take-less (suc k) (suc n) [] = let e : min (suc n) (suc k) ≡ suc (min n k) = omega arith in rw e
-take-less (suc k) (suc n) (x ∷ l) = let e : min (suc n) (suc k) ≡ suc (min n k) = omega arith in rw e (ap (λ r. x ∷ r) (take-less k n l))
-
 found : (t : ℕ) → 0 < t → momentOf t ≡ U.Is t
 unfolding momentOf
 found t h = rw (ne-eqb t 0 (λ e. absurd (omega arith)))
 
-module _ (now : ℕ) where
+module _ (utc : ℕ) where
   -- from one that was found on
-  soonest-least : (b : ℕ) (ts : List ℕ) → 0 < b → soonest now b ts ≡ leastOf b (later now ts)
+  soonest-least : (b : ℕ) (ts : List ℕ) → 0 < b → soonest utc b ts ≡ leastOf b (later utc ts)
   unfolding soonest sooner keep leastOf
   soonest-least b [] h = refl
   soonest-least b (t ∷ ts) h =
-      by-test (ltb now t)
-      (λ e. let l = ltb-true now t e in rw (e, ne-eqb b 0 (λ z. absurd (omega arith))) (soonest-least (min b t) ts (omega arith) ∙ least-min b t (later now ts)))
+      by-test (ltb utc t)
+      (λ e. let l = ltb-true utc t e in rw (e, ne-eqb b 0 (λ z. absurd (omega arith))) (soonest-least (min b t) ts (omega arith) ∙ least-min b t (later utc ts)))
       (λ e. rw e (soonest-least b ts h))
 
-  soonest-found : (b : ℕ) (ts : List ℕ) → 0 < b → 0 < soonest now b ts
+  soonest-found : (b : ℕ) (ts : List ℕ) → 0 < b → 0 < soonest utc b ts
   unfolding soonest sooner
   soonest-found b [] h = h
   soonest-found b (t ∷ ts) h =
-      by-test (ltb now t)
-      (λ e. let l = ltb-true now t e in rw (e, ne-eqb b 0 (λ z. absurd (omega arith))) (soonest-found (min b t) ts (omega arith)))
+      by-test (ltb utc t)
+      (λ e. let l = ltb-true utc t e in rw (e, ne-eqb b 0 (λ z. absurd (omega arith))) (soonest-found (min b t) ts (omega arith)))
       (λ e. rw e (soonest-found b ts h))
 
   -- it is the smallest of those after now
-  pub soonest-smallest : (ts : List ℕ) → momentOf (soonest now 0 ts) ≡ maybeU64 (smallest (later now ts))
+  pub soonest-smallest : (ts : List ℕ) → momentOf (soonest utc 0 ts) ≡ maybeU64 (smallest (later utc ts))
   unfolding momentOf soonest sooner keep smallest
   soonest-smallest [] = refl
   soonest-smallest (t ∷ ts) =
-      by-test (ltb now t)
-      (λ e. let l = ltb-true now t e in rw e (found (soonest now t ts) (soonest-found t ts (omega arith)) ∙ ap U.Is (soonest-least t ts (omega arith))))
+      by-test (ltb utc t)
+      (λ e. let l = ltb-true utc t e in rw e (found (soonest utc t ts) (soonest-found t ts (omega arith)) ∙ ap U.Is (soonest-least t ts (omega arith))))
       (λ e. rw e (soonest-smallest ts))
 
   -- of two lists, one after the other
-  pub soonest-append : (b : ℕ) (xs ys : List ℕ) → soonest now b (xs ++ ys) ≡ soonest now (soonest now b xs) ys
+  pub soonest-append : (b : ℕ) (xs ys : List ℕ) → soonest utc b (xs ++ ys) ≡ soonest utc (soonest utc b xs) ys
   unfolding soonest
   soonest-append b [] ys = refl
-  soonest-append b (x ∷ xs) ys = soonest-append (sooner now b x) xs ys
+  soonest-append b (x ∷ xs) ys = soonest-append (sooner utc b x) xs ys
 
-  soonest-end : (b : ℕ) (u : MaybeU64) (ts : List ℕ) → soonest now b (endThen (optionU64 u) ts) ≡ soonest now (sooner now b (endOrZero u)) ts
+  -- ## Entry by entry
+
+  past-end : (best : ℕ) (u : Option ℕ) (ts : List ℕ) → soonest utc best (endThen u ts) ≡ soonest utc (sooner utc best (endOrZero (maybeU64 u))) ts
   unfolding soonest sooner endOrZero
-  soonest-end b U.Nothing ts = rw (le-ltb now 0 (omega arith))
-  soonest-end b (U.Is e) ts = refl
+  past-end best none ts = rw (le-ltb utc 0 (omega arith))
+  past-end best (some e) ts = refl
 
-  -- one window and those after it
-  soonest-window : (b : ℕ) (w : DSTOffsetEntry) (ws : List DSTOffsetEntry)
-      → soonest now b (windowBounds (map windowOf (w ∷ ws)))
-      ≡ soonest now (sooner now (sooner now b (w .«valid_starting»)) (endOrZero (w .«valid_until»))) (windowBounds (map windowOf ws))
-  unfolding soonest windowBounds
-  soonest-window b w ws = soonest-end (sooner now b (w .«valid_starting»)) (w .«valid_until») (windowBounds (map windowOf ws))
+  module _ (n i : ℕ) where
+    -- one zone more is behind
+    pub past-zone : (entry : ℕ → Zone) (best r : ℕ) → i < n → r ≡ sooner utc best (entry i .start)
+        → soonest utc best (zoneStarts (entriesFrom entry i (n - i))) ≡ soonest utc r (zoneStarts (entriesFrom entry (i + 1) (n - (i + 1))))
+    unfolding zoneStarts soonest
+    past-zone entry best r h e =
+        ap (λ (zs : List Zone). soonest utc best (zoneStarts zs)) (next entry n i h)
+        ∙ ap (λ (b : ℕ). soonest utc b (zoneStarts (entriesFrom entry (i + 1) (n - (i + 1))))) (sym e)
 
-  -- one zone more is behind
-  pub past-zone : (best : ℕ) (n : ℕ) (l : List TimeZoneOwned) (i : ℕ) (d : TimeZoneOwned) → i < n → i < length l
-      → soonest now best (zoneStarts (map zoneOf (drop i (take n l))))
-      ≡ soonest now (sooner now best (getD l i d .«valid_at»)) (zoneStarts (map zoneOf (drop (i + 1) (take n l))))
-  unfolding zoneStarts soonest
-  past-zone best n l i d h k = rw (next n l i d h k)
+    -- no zone is left
+    pub zones-over : (entry : ℕ → Zone) (best : ℕ) → n ≤ i → soonest utc best (zoneStarts (entriesFrom entry i (n - i))) ≡ best
+    unfolding zoneStarts soonest
+    zones-over entry best h = ap (λ (zs : List Zone). soonest utc best (zoneStarts zs)) (over entry n i h)
 
-  -- one window more is behind
-  pub past-window : (best : ℕ) (n : ℕ) (l : List DSTOffsetEntry) (i : ℕ) (d : DSTOffsetEntry) → i < n → i < length l
-      → soonest now best (windowBounds (map windowOf (drop i (take n l))))
-      ≡ soonest now (sooner now (sooner now best (getD l i d .«valid_starting»)) (endOrZero (getD l i d .«valid_until»))) (windowBounds (map windowOf (drop (i + 1) (take n l))))
-  past-window best n l i d h k = rw (next n l i d h k) (soonest-window best (getD l i d) (drop (i + 1) (take n l)))
+    -- one window more is behind
+    pub past-window : (entry : ℕ → Window) (best m r : ℕ) → i < n → m ≡ sooner utc best (entry i .start) → r ≡ sooner utc m (endOrZero (maybeU64 (entry i .until)))
+        → soonest utc best (windowBounds (entriesFrom entry i (n - i))) ≡ soonest utc r (windowBounds (entriesFrom entry (i + 1) (n - (i + 1))))
+    unfolding windowBounds soonest
+    past-window entry best m r h e f =
+        let left = windowBounds (entriesFrom entry (i + 1) (n - (i + 1))) in
+        ap (λ (ws : List Window). soonest utc best (windowBounds ws)) (next entry n i h)
+        ∙ ap (λ (b : ℕ). soonest utc b (endThen (entry i .until) left)) (sym e)
+        ∙ past-end m (entry i .until) left
+        ∙ ap (λ (b : ℕ). soonest utc b left) (sym f)
 
-  -- no zone is left, and no window
-  pub zones-over : (best : ℕ) (n : ℕ) (l : List TimeZoneOwned) (i : ℕ) → min n (length l) ≤ i → soonest now best (zoneStarts (map zoneOf (drop i (take n l)))) ≡ best
-  unfolding zoneStarts soonest
-  zones-over best n l i h = rw (over n l i h)
-
-  pub windows-over : (best : ℕ) (n : ℕ) (l : List DSTOffsetEntry) (i : ℕ) → min n (length l) ≤ i → soonest now best (windowBounds (map windowOf (drop i (take n l)))) ≡ best
-  unfolding windowBounds soonest
-  windows-over best n l i h = rw (over n l i h)
-
-  -- the windows before an index, then those from it on
-  split : (b k : ℕ) (l : List DSTOffsetEntry)
-      → soonest now (soonest now b (windowBounds (map windowOf (take k l)))) (windowBounds (map windowOf (drop k l))) ≡ soonest now b (windowBounds (map windowOf l))
-  unfolding windowBounds soonest
-  split b zero l = refl
-  split b (suc k) [] = refl
-  split b (suc k) (w ∷ l) = rw (soonest-window b w l, soonest-window b w (take k l)) (split _ k l)
-
-  -- the same of the first `n`, of which there is room for `most`
-  pub both-halves : (b k most n : ℕ) (l : List DSTOffsetEntry) → length l ≤ most
-      → soonest now (soonest now b (windowBounds (map windowOf (take (min (min n most) k) l)))) (windowBounds (map windowOf (drop k (take (min n most) l)))) ≡ soonest now b (windowBounds (map windowOf (take n l)))
-  both-halves b k most n l h =
-      let e : take (min n most) l ≡ take n l = take-less most n l ∙ take-all most (take n l) (rw length-take (omega arith)) in
-      rw (take-less k (min n most) l, e) (split b k (take n l))
+    -- no window is left
+    pub windows-over : (entry : ℕ → Window) (best : ℕ) → n ≤ i → soonest utc best (windowBounds (entriesFrom entry i (n - i))) ≡ best
+    unfolding windowBounds soonest
+    windows-over entry best h = ap (λ (ws : List Window). soonest utc best (windowBounds ws)) (over entry n i h)

@@ -13,10 +13,11 @@ use Rattle.model.specs.Walk as M
 use Rattle.model.proofs.Facts.{fewer-left, first-after}
 use Rattle.model.proofs.Accepted.{count-le}
 use Rattle.model.proofs.Whole.{whole}
-use Rattle.record.specs.Data.{zoneOf, windowOf, listsOf, padded}
-use Rattle.record.proofs.Writes.{zeros, length-listed}
+use Rattle.table.specs.Layout.{listsIn}
 use Rattle.lookups.specs.declared.Walk.{Walk}
+use Rattle.lookups.specs.Transitions.{padded}
 use Rattle.lookups.specs.Laws.{HoldsTheWalk}
+use Rattle.lookups.proofs.Views.{few-zones, few-windows}
 
 -- ## How many boundaries there are
 
@@ -54,6 +55,10 @@ behind-standing : (xs : List ℕ) (s : ℕ) → behind xs (M.standing s) ≡ rec
 unfolding behind
 behind-standing [] s = refl
 behind-standing (y ∷ xs) s = ap (M.stepBefore y) (behind-standing xs s)
+
+-- `n` zeros
+abbrev zeros : ℕ → List ℕ
+zeros n = replicate n 0
 
 zeros-more : (n : ℕ) → 0 < n → zeros n ≡ 0 ∷ zeros (n - 1)
 zeros-more zero h = absurd (omega arith)
@@ -172,11 +177,9 @@ wide = record { zoneLimit = 9; windowLimit = 16 }
 
 pub holds-the-walk : HoldsTheWalk
 unfolding M.differentLater
-holds-the-walk d start h k =
-    let l = listsOf d in
-    let z = length-listed zoneOf (d .«time_zone_count») (d .«time_zone») in
-    let w = length-listed windowOf (d .«dst_offset_count») (d .«dst_offset») in
-    let b = few-boundaries l (omega arith) (omega arith) in
+holds-the-walk s start =
+    let l = listsIn s in
+    let b = few-boundaries l (few-zones s) (few-windows s) in
     let c : M.differentLater l start ≤ length (boundaries l) = count-le start (boundaries l) in
     let g = whole l wide start (omega arith) in
     padded-front 41 0 (M.walk l start .moments) (suc (M.walk l start .steps)) (g .counted) (omega (arith, g .few))

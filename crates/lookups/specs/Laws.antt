@@ -1,48 +1,67 @@
--- What the answers by value stand for, and that they say what the lists say.
+-- What is shown of a table is what is defined on its lists; the proofs stand in proofs/.
 use mathlib.Core.Bool.{cond}
+use mathlib.Core.List.{List}
 use mathlib.Core.Option.{Option, none, some}
 use mathlib.Core.Path.{_≡_}
-use Prim.Native.Nat.{ℕ, suc, _≤_}
-use lib.ListN.{length, take}
-use Rattle.model.specs.Lists.{Zone, Window}
-use Rattle.model.specs.Lookups.{ZoneNow, activeZone, zoneAt, windowAt}
+use Prim.Native.Nat.{ℕ, suc, _+_, _≤_}
+use lib.ListN.{take, drop}
+use Rattle.model.specs.Lists.{Name, Zone, Window}
+use Rattle.model.specs.Lookups as L
+use Rattle.model.specs.Maybe.{optionU64}
 use Rattle.model.specs.Walk.{walk}
-use Rattle.record.specs.declared.TimeZoneStoreData.{TimeZoneStoreData}
-use Rattle.record.specs.Data.{zoneOf, windowOf, listsOf}
-use Rattle.lookups.specs.declared.ActiveTimeZone.{ActiveTimeZone}
-use Rattle.lookups.specs.declared.TimeZoneListed.{TimeZoneListed}
+use Rattle.table.specs.Layout.{tableSize, listsIn}
+use Rattle.lookups.specs.declared.ZoneShown.{ZoneShown}
+use Rattle.lookups.specs.declared.ZoneListed.{ZoneListed}
+use Rattle.lookups.specs.declared.DSTOffsetEntry.{DSTOffsetEntry}
 use Rattle.lookups.specs.declared.DSTOffsetListed.{DSTOffsetListed}
-use Rattle.lookups.specs.Shown.{activeShown, zoneListedAt, windowListedAt}
+use Rattle.lookups.specs.Shown.{shownBy, activeIndex, zoneListedIn, windowListedIn}
 use Rattle.lookups.specs.Transitions.{walkOwned}
 
--- what is shown, as an offset and maybe a name
-abbrev pub zoneNowOf : ActiveTimeZone → ZoneNow
-zoneNowOf a = record { offset = a .offset; name = cond (a .named) (some (take (a .«name_len») (a .name))) none }
+-- ## What the answers stand for
 
--- a listed zone, or none
-abbrev pub zoneListedOf : TimeZoneListed → Option Zone
-zoneListedOf r = cond (r .there) (some (zoneOf (r .zone))) none
+-- the name that is shown, out of the table
+abbrev pub shownName : List ℕ → ZoneShown → Option Name
+shownName s z = cond (z .named) (some (take (z .«name_len») (drop (z .«name_at») s))) none
 
--- a listed window, or none
+abbrev pub zoneNowIn : List ℕ → ZoneShown → L.ZoneNow
+zoneNowIn s z = record { offset = z .offset; name = shownName s z }
+
+abbrev pub zoneIn : List ℕ → ZoneShown → Zone
+zoneIn s z = record { offset = z .offset; start = z .«valid_at»; name = shownName s z }
+
+abbrev pub zoneListedOf : List ℕ → ZoneListed → Option Zone
+zoneListedOf s r = cond (r .there) (some (zoneIn s (r .zone))) none
+
+abbrev pub windowOf : DSTOffsetEntry → Window
+windowOf w = record { offset = w .offset; start = w .«valid_starting»; until = optionU64 (w .«valid_until») }
+
 abbrev pub windowListedOf : DSTOffsetListed → Option Window
 windowListedOf r = cond (r .there) (some (windowOf (r .window))) none
 
+-- the place of the name that is shown ends inside a table
+abbrev pub EndsInside : ZoneShown → Type 0
+EndsInside z = z .«name_at» + z .«name_len» ≤ tableSize
+
 -- ## Laws
 
--- what is shown of the active zone is the active zone of the lists
-abbrev pub ShowsTheActiveZone : Type 0
-ShowsTheActiveZone = (d : TimeZoneStoreData) (now : ℕ) → zoneNowOf (activeShown d now) ≡ activeZone (listsOf d) now
+-- `active-shown`: what is shown of the active zone is the active zone of the lists
+abbrev pub ActiveShown : Type 0
+ActiveShown = (s : List ℕ) (now : ℕ) → zoneNowIn s (shownBy s (activeIndex s now)) ≡ L.activeZone (listsIn s) now
 
--- the listed zone at an index is that of the lists
-abbrev pub ListsTheZones : Type 0
-ListsTheZones = (d : TimeZoneStoreData) (i : ℕ) → zoneListedOf (zoneListedAt d i) ≡ zoneAt (listsOf d) i
+-- `zone-listed`: the listed zone at an index is that of the lists
+abbrev pub ZoneListedMeans : Type 0
+ZoneListedMeans = (s : List ℕ) (i : ℕ) → zoneListedOf s (zoneListedIn s i) ≡ L.zoneAt (listsIn s) i
 
--- the listed window at an index is that of the lists
-abbrev pub ListsTheWindows : Type 0
-ListsTheWindows = (d : TimeZoneStoreData) (i : ℕ) → windowListedOf (windowListedAt d i) ≡ windowAt (listsOf d) i
+-- `window-listed`: the listed window at an index is that of the lists
+abbrev pub WindowListedMeans : Type 0
+WindowListedMeans = (s : List ℕ) (i : ℕ) → windowListedOf (windowListedIn s i) ≡ L.windowAt (listsIn s) i
 
--- the 41 moments of a walk by value hold every moment of the walk
+-- `name-in-place`: a name that is shown, of the active zone or of a listed one, stands inside the table
+abbrev pub NameInPlace : Type 0
+NameInPlace = (s : List ℕ) → ((now : ℕ) → EndsInside (shownBy s (activeIndex s now))) × ((i : ℕ) → EndsInside (zoneListedIn s i .zone))
+
+-- `holds-the-walk`: the 41 moments of a walk by value hold every moment of the walk
 abbrev pub HoldsTheWalk : Type 0
 HoldsTheWalk =
-    (d : TimeZoneStoreData) (start : ℕ) → length (d .«time_zone») ≤ 8 → length (d .«dst_offset») ≤ 16
-    → take (suc (walkOwned (walk (listsOf d) start) .steps)) (walkOwned (walk (listsOf d) start) .moments) ≡ walk (listsOf d) start .moments
+    (s : List ℕ) (start : ℕ)
+    → take (suc (walkOwned (walk (listsIn s) start) .steps)) (walkOwned (walk (listsIn s) start) .moments) ≡ walk (listsIn s) start .moments

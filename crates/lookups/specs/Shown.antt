@@ -1,63 +1,82 @@
--- What is shown and listed of the lists by value.
-use mathlib.Core.Bool.{Bool, true, false}
-use mathlib.Core.List.{List, [], _∷_}
+-- What is shown of a zone and of an entry of a table; a name is shown by its place.
+use mathlib.Core.Bool.{true, false, _&&_, cond}
+use mathlib.Core.List.{List}
 use mathlib.Core.Option.{Option, none, some}
-use Prim.Native.Nat.{ℕ}
-use lib.Dec.{leb}
+use Prim.Native.Nat.{ℕ, _+_, min}
+use lib.Dec.{leb, ltb, eqb}
 use lib.IntN.{pos}
-use lib.ListN.{take, getElem?, replicate}
 use Rattle.model.specs.Basics.{keep, last}
-use Rattle.record.specs.declared.TimeZoneOwned.{TimeZoneOwned}
-use Rattle.record.specs.declared.DSTOffsetEntry.{DSTOffsetEntry}
-use Rattle.record.specs.declared.TimeZoneStoreData.{TimeZoneStoreData}
-use Rattle.record.specs.Data.{blankZone, blankWindow}
-use Rattle.lookups.specs.declared.ActiveTimeZone.{ActiveTimeZone}
-use Rattle.lookups.specs.declared.TimeZoneListed.{TimeZoneListed}
+use Rattle.model.specs.Lists.{Window}
+use Rattle.model.specs.Maybe.{maybeU64}
+use Rattle.word.specs.Place.{byteAt}
+use Rattle.table.specs.Layout.{markAt, zonePlace, windowPlace, zoneAt, windowAt, entriesFrom, zoneCount, windowCount}
+use Rattle.lookups.specs.declared.ZoneShown.{ZoneShown}
+use Rattle.lookups.specs.declared.ZoneListed.{ZoneListed}
+use Rattle.lookups.specs.declared.DSTOffsetEntry.{DSTOffsetEntry}
 use Rattle.lookups.specs.declared.DSTOffsetListed.{DSTOffsetListed}
 
--- the entries that are in use: the first `count` of an array, all of it where the count is larger
-abbrev pub zoneEntries : TimeZoneStoreData → List TimeZoneOwned
-zoneEntries d = take (d .«time_zone_count») (d .«time_zone»)
+-- ## Zones
 
-abbrev pub windowEntries : TimeZoneStoreData → List DSTOffsetEntry
-windowEntries d = take (d .«dst_offset_count») (d .«dst_offset»)
+-- how long the name in a place is, and 0 where there is none
+abbrev pub nameLength : List ℕ → ℕ → ℕ
+nameLength s at = cond (markAt s (at + 12)) (min (byteAt s (at + 13)) 64) 0
 
--- ## The active zone
+-- where the name stands, and 0 where there is none
+abbrev pub namePlace : List ℕ → ℕ → ℕ
+namePlace s at = cond (markAt s (at + 12)) (at + 14) 0
 
--- begun: the zone's start is not after now
-abbrev pub begun : ℕ → TimeZoneOwned → Bool
-begun now z = leb (z .«valid_at») now
+-- the zone at a place of the table
+abbrev pub shownAt : List ℕ → ℕ → ZoneShown
+shownAt s at =
+    record {
+      offset = zoneAt s at .offset;
+      «valid_at» = zoneAt s at .start;
+      named = markAt s (at + 12);
+      «name_at» = namePlace s at;
+      «name_len» = nameLength s at;
+    }
 
--- shown of a zone: its offset and its name; with no zone, offset 0 and no name
-abbrev pub shown : Option TimeZoneOwned → ActiveTimeZone
-shown none = record { offset = pos 0; named = false; «name_len» = 0; name = replicate 64 0 }
-shown (some z) = record { offset = z .offset; named = z .named; «name_len» = z .«name_len»; name = z .name }
+-- no zone: offset 0 from moment 0 with no name
+abbrev pub blankShown : ZoneShown
+blankShown = record { offset = pos 0; «valid_at» = 0; named = false; «name_at» = 0; «name_len» = 0 }
 
--- the active zone by value: the last that has begun
-abbrev pub activeShown : TimeZoneStoreData → ℕ → ActiveTimeZone
-activeShown d now = shown (last (keep (begun now) (zoneEntries d)))
+abbrev pub shownBy : List ℕ → Option ℕ → ZoneShown
+shownBy s none = blankShown
+shownBy s (some i) = shownAt s (zonePlace i)
 
--- ## Listing
+-- the indices of the zones, in order
+abbrev pub zoneIndices : List ℕ → List ℕ
+zoneIndices s = entriesFrom (λ i. i) 0 (zoneCount s)
 
--- the zones as they are listed: an empty list shows the blank one
-abbrev pub listedZones : List TimeZoneOwned → List TimeZoneOwned
-listedZones [] = blankZone ∷ []
-listedZones (z ∷ zs) = z ∷ zs
+-- the index of the last zone that has started
+unfoldable pub activeIndex : List ℕ → ℕ → Option ℕ
+activeIndex s now = last (keep (λ i. leb (zoneAt s (zonePlace i) .start) now) (zoneIndices s))
 
--- a zone of the listing, or none with the blank one in its place
-abbrev pub zoneListed : Option TimeZoneOwned → TimeZoneListed
-zoneListed none = record { there = false; zone = blankZone }
-zoneListed (some z) = record { there = true; zone = z }
+-- of n zones the one at an index; an empty list shows the blank one at index 0
+abbrev pub listedOf : List ℕ → ℕ → ℕ → ZoneListed
+listedOf s i n =
+    cond (ltb i n) (record { there = true; zone = shownAt s (zonePlace i) })
+    (record { there = eqb n 0 && eqb i 0; zone = blankShown })
 
--- the listed zone at an index, by value
-abbrev pub zoneListedAt : TimeZoneStoreData → ℕ → TimeZoneListed
-zoneListedAt d i = zoneListed (getElem? (listedZones (zoneEntries d)) i)
+-- the listed zone at an index
+unfoldable pub zoneListedIn : List ℕ → ℕ → ZoneListed
+zoneListedIn s i = listedOf s i (zoneCount s)
+
+-- ## Windows
+
+-- a window by value
+abbrev pub windowEntry : Window → DSTOffsetEntry
+windowEntry w = record { offset = w .offset; «valid_starting» = w .start; «valid_until» = maybeU64 (w .until) }
+
+-- no window: offset 0 from moment 0 with no end
+abbrev pub blankWindow : DSTOffsetEntry
+blankWindow = windowEntry (record { offset = pos 0; start = 0; until = none })
 
 -- a window of the listing, or none with the blank one in its place
 abbrev pub windowListed : Option DSTOffsetEntry → DSTOffsetListed
 windowListed none = record { there = false; window = blankWindow }
 windowListed (some w) = record { there = true; window = w }
 
--- the listed window at an index, by value
-abbrev pub windowListedAt : TimeZoneStoreData → ℕ → DSTOffsetListed
-windowListedAt d i = windowListed (getElem? (windowEntries d) i)
+-- the window at an index
+unfoldable pub windowListedIn : List ℕ → ℕ → DSTOffsetListed
+windowListedIn s i = windowListed (cond (ltb i (windowCount s)) (some (windowEntry (windowAt s (windowPlace i)))) none)

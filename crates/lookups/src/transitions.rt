@@ -1,33 +1,29 @@
 // The next transition, and the walk from one to the next.
 ghost use mathlib.Core.Path.{_≡_};
-ghost use mathlib.Core.List.{map};
-ghost use Prim.Native.Nat.{_≤_};
-ghost use lib.ListN.{take, drop};
+ghost use Prim.Native.Nat.{_<_};
 ghost use Rattle.model.specs.Lookups.{nextTransition, zoneStarts, windowBounds};
 ghost use Rattle.model.specs.Maybe.{maybeU64};
 ghost use Rattle.model.specs.Walk as W;
-ghost use Rattle.record.specs.Data.{windowOf, zonesOf, windowsOf, listsOf};
 ghost use Rattle.lookups.specs.Transitions.{endOrZero, sooner, soonest, momentOf, walkOwned};
+ghost use Rattle.table.specs.Layout.{windowPlace, windowAt, zonesIn, windowsIn, listsIn};
 use crate::Walk;
+use crate::window_place;
+use crate::windows::window_end;
+use crate::zone_place;
 use model::MaybeU64;
-use record::TimeZoneStoreData;
-use word::least;
+use table::layout::START;
+use table::layout::window_count;
+use table::layout::zone_count;
+use word::or_zero::u64_at;
 
-// An end, or 0 where there is none: 0 is after no moment.
-fn end_or_zero(end: MaybeU64) -> u64
-    ensures { λ r. ⌜ r ≡ endOrZero end ⌝ }
-{
-    match end {
-        MaybeU64::Nothing => 0,
-        MaybeU64::Is(e) => e,
-    }
-}
+// The longest walk: 8 starts of zones, 16 starts and 16 ends of windows.
+const MOST_STEPS: usize = 40;
 
 // The sooner of the best so far, 0 for none, and a moment, if that is after now.
-fn sooner_of(now: u64, best: u64, t: u64) -> u64
-    ensures { λ r. ⌜ r ≡ sooner now best t ⌝ }
+fn sooner_of(utc: u64, best: u64, t: u64) -> u64
+    ensures { λ r. ⌜ r ≡ sooner utc best t ⌝ }
 {
-    if t <= now {
+    if t <= utc {
         return best;
     }
     if best == 0 {
@@ -36,45 +32,46 @@ fn sooner_of(now: u64, best: u64, t: u64) -> u64
     if t < best { t } else { best }
 }
 
-// The soonest start of a zone after now, 0 for none.
-fn zone_transition(d: TimeZoneStoreData, now: u64) -> u64
-    ensures { λ r. ⌜ r ≡ soonest now 0 (zoneStarts (zonesOf d)) ⌝ }
+// The end of the window with index i, or 0 where there is none: 0 is after no moment.
+fn end_or_zero(table: &[u8], i: usize) -> u64
+    requires { ⌜ i < 16 ⌝ }
+    ensures { λ r. ⌜ r ≡ endOrZero (maybeU64 (windowAt (now (table .entry)) (windowPlace i) .until)) ⌝ }
 {
-    let n = least(d.time_zone_count, 8);
+    let end = window_end(table, i);
+    match end {
+        MaybeU64::Nothing => 0,
+        MaybeU64::Is(e) => e,
+    }
+}
+
+// The soonest start of a zone after now, 0 for none.
+fn zone_transition(table: &[u8], utc: u64) -> u64
+    ensures { λ r. ⌜ r ≡ soonest utc 0 (zoneStarts (zonesIn (now (table .entry)))) ⌝ }
+{
+    let n = zone_count(table);
     let mut best: u64 = 0;
     let mut i: usize = 0;
     while i < n {
-        let z = d.time_zone[i];
-        best = sooner_of(now, best, z.valid_at);
+        best = sooner_of(utc, best, u64_at(table, zone_place(i) + START));
         i += 1;
     }
     best
 }
 
-// The sooner of the best so far and the starts and ends after now of some of the windows.
-fn windows_between(d: TimeZoneStoreData, now: u64, sofar: u64, from: usize, to: usize) -> u64
-    requires { ⌜ to ≤ 16 ⌝ }
-    ensures { λ r. ⌜ r ≡ soonest now sofar (windowBounds (map windowOf (drop from (take to (d .«dst_offset»))))) ⌝ }
+// The sooner of the best so far and the starts and ends of the windows after now.
+fn window_transition(table: &[u8], utc: u64, sofar: u64) -> u64
+    ensures { λ r. ⌜ r ≡ soonest utc sofar (windowBounds (windowsIn (now (table .entry)))) ⌝ }
 {
+    let n = window_count(table);
     let mut best = sofar;
-    let mut i = from;
-    while i < to {
-        let w = d.dst_offset[i];
-        let end = w.valid_until;
-        best = sooner_of(now, best, w.valid_starting);
-        best = sooner_of(now, best, end_or_zero(end));
+    let mut i: usize = 0;
+    while i < n {
+        best = sooner_of(utc, best, u64_at(table, window_place(i) + START));
+        let end = end_or_zero(table, i);
+        best = sooner_of(utc, best, end);
         i += 1;
     }
     best
-}
-
-// The same of all windows, in two halves: a loop of at most 8 turns is unrolled, and then the lists are not copied.
-fn window_transition(d: TimeZoneStoreData, now: u64, sofar: u64) -> u64
-    ensures { λ r. ⌜ r ≡ soonest now sofar (windowBounds (windowsOf d)) ⌝ }
-{
-    let n = least(d.dst_offset_count, 16);
-    let half = windows_between(d, now, sofar, 0, least(n, 8));
-    windows_between(d, now, half, 8, n)
 }
 
 // A moment that was found, or none for 0.
@@ -89,22 +86,22 @@ fn moment_of(t: u64) -> MaybeU64
 }
 
 // The soonest start or end after now.
-pub fn next_transition(d: TimeZoneStoreData, now: u64) -> MaybeU64
-    ensures { λ r. ⌜ r ≡ maybeU64 (nextTransition (listsOf d) now) ⌝ }
+pub fn next_transition(table: &[u8], utc: u64) -> MaybeU64
+    ensures { λ r. ⌜ r ≡ maybeU64 (nextTransition (listsIn (now (table .entry))) utc) ⌝ }
 {
-    moment_of(window_transition(d, now, zone_transition(d, now)))
+    moment_of(window_transition(table, utc, zone_transition(table, utc)))
 }
 
 // From a moment on to the next transition, until there is none.
-pub fn walk(d: TimeZoneStoreData, start: u64) -> Walk
-    ensures { λ r. ⌜ r ≡ walkOwned (W.walk (listsOf d) start) ⌝ }
+pub fn walk(table: &[u8], start: u64) -> Walk
+    ensures { λ r. ⌜ r ≡ walkOwned (W.walk (listsIn (now (table .entry))) start) ⌝ }
 {
     let mut moments = [0u64; 41];
     moments[0] = start;
     let mut steps: usize = 0;
     let mut at = start;
-    while steps < 40 {
-        let MaybeU64::Is(m) = next_transition(d, at) else {
+    while steps < MOST_STEPS {
+        let MaybeU64::Is(m) = next_transition(table, at) else {
             return Walk { moments, steps };
         };
         steps += 1;

@@ -1,93 +1,109 @@
 // Lookups in the list of windows.
 ghost use mathlib.Core.Path.{_≡_};
 ghost use mathlib.Core.Option.{some, none};
-ghost use Rattle.model.specs.Lookups.{notEnded, isActive, isUsable, activeOffset, lastActiveWindow, offsetOf, usable, tableEmpty};
-ghost use Rattle.model.specs.Maybe.{optionU64, maybeI32};
-ghost use Rattle.record.specs.Data.{windowOf, listsOf};
-ghost use Rattle.lookups.specs.Shown.{windowListed, windowListedAt};
+ghost use Prim.Native.Nat.{_<_};
+ghost use Rattle.model.specs.Bytes.{signed};
+ghost use Rattle.model.specs.Lookups.{isActive, isUsable, activeOffset, lastActiveWindow, offsetOf, usable, tableEmpty};
+ghost use Rattle.model.specs.Maybe.{maybeI32, maybeU64};
+ghost use Rattle.word.specs.Place.{wordAt};
+ghost use Rattle.table.specs.Layout.{windowPlace, windowAt, listsIn};
+ghost use Rattle.lookups.specs.Shown.{windowEntry, windowListed, windowListedIn};
+use crate::DSTOffsetEntry;
 use crate::DSTOffsetListed;
+use crate::window_place;
 use model::MaybeI32;
 use model::MaybeU64;
-use record::DSTOffsetEntry;
-use record::TimeZoneStoreData;
-use word::least;
+use table::layout::END;
+use table::layout::MARK;
+use table::layout::START;
+use table::layout::window_count;
+use word::or_zero::i32_at;
+use word::or_zero::u8_at;
+use word::or_zero::u64_at;
 
-// Now is before the end; an open window never ends.
-fn not_ended(end: MaybeU64, now: u64) -> bool
-    ensures { λ r. ⌜ r ≡ notEnded now (optionU64 end) ⌝ }
+// The end of the window with index i, if it has one.
+pub(crate) fn window_end(table: &[u8], i: usize) -> MaybeU64
+    requires { ⌜ i < 16 ⌝ }
+    ensures { λ r. ⌜ r ≡ maybeU64 (windowAt (now (table .entry)) (windowPlace i) .until) ⌝ }
 {
+    let at = window_place(i);
+    if u8_at(table, at + MARK) == 0 {
+        return MaybeU64::Nothing;
+    }
+    MaybeU64::Is(u64_at(table, at + END))
+}
+
+// The window with index i is open or its end is after now, started or not.
+fn is_usable(table: &[u8], i: usize, utc: u64) -> bool
+    requires { ⌜ i < 16 ⌝ }
+    ensures { λ r. ⌜ r ≡ isUsable utc (windowAt (now (table .entry)) (windowPlace i)) ⌝ }
+{
+    let end = window_end(table, i);
     match end {
         MaybeU64::Nothing => true,
-        MaybeU64::Is(e) => now < e,
+        MaybeU64::Is(e) => utc < e,
     }
 }
 
-// The window is open or its end is after now, started or not.
-fn is_usable(w: DSTOffsetEntry, now: u64) -> bool
-    ensures { λ r. ⌜ r ≡ isUsable now (windowOf w) ⌝ }
+// The window with index i has started and has not ended.
+fn is_active(table: &[u8], i: usize, utc: u64) -> bool
+    requires { ⌜ i < 16 ⌝ }
+    ensures { λ r. ⌜ r ≡ isActive utc (windowAt (now (table .entry)) (windowPlace i)) ⌝ }
 {
-    let end = w.valid_until;
-    not_ended(end, now)
-}
-
-// The window has started and has not ended.
-fn is_active(w: DSTOffsetEntry, now: u64) -> bool
-    ensures { λ r. ⌜ r ≡ isActive now (windowOf w) ⌝ }
-{
-    if now < w.valid_starting {
+    if utc < u64_at(table, window_place(i) + START) {
         return false;
     }
-    is_usable(w, now)
+    is_usable(table, i, utc)
 }
 
-// The offset of a window.
-fn offset_of(w: DSTOffsetEntry) -> MaybeI32
-    ensures { λ r. ⌜ r ≡ MaybeI32.Is (w .offset) ⌝ }
+// The offset of the window with index i.
+fn offset_of(table: &[u8], i: usize) -> MaybeI32
+    requires { ⌜ i < 16 ⌝ }
+    ensures { λ r. ⌜ r ≡ MaybeI32.Is (signed (wordAt 4 (now (table .entry)) (windowPlace i))) ⌝ }
 {
-    MaybeI32::Is(w.offset)
+    MaybeI32::Is(i32_at(table, window_place(i)))
 }
 
 // The offset of the first active window.
-pub fn active_dst_offset(d: TimeZoneStoreData, now: u64) -> MaybeI32
-    ensures { λ r. ⌜ r ≡ maybeI32 (activeOffset (listsOf d) now) ⌝ }
+pub fn active_dst_offset(table: &[u8], utc: u64) -> MaybeI32
+    ensures { λ r. ⌜ r ≡ maybeI32 (activeOffset (listsIn (now (table .entry))) utc) ⌝ }
 {
-    let n = least(d.dst_offset_count, 16);
+    let n = window_count(table);
     let mut i: usize = 0;
     while i < n {
-        let w = d.dst_offset[i];
+        let w = i;
         i += 1;
-        if is_active(w, now) {
-            return offset_of(w);
+        if is_active(table, w, utc) {
+            return offset_of(table, w);
         }
     }
     MaybeI32::Nothing
 }
 
 // The offset of the last active window, looked for from the end.
-pub fn last_active_dst_offset(d: TimeZoneStoreData, now: u64) -> MaybeI32
-    ensures { λ r. ⌜ r ≡ maybeI32 (offsetOf (lastActiveWindow (listsOf d) now)) ⌝ }
+pub fn last_active_dst_offset(table: &[u8], utc: u64) -> MaybeI32
+    ensures { λ r. ⌜ r ≡ maybeI32 (offsetOf (lastActiveWindow (listsIn (now (table .entry))) utc)) ⌝ }
 {
-    let mut i = least(d.dst_offset_count, 16);
+    let mut i = window_count(table);
     while 0 < i {
         i -= 1;
-        let w = d.dst_offset[i];
-        if is_active(w, now) {
-            return offset_of(w);
+        if is_active(table, i, utc) {
+            return offset_of(table, i);
         }
     }
     MaybeI32::Nothing
 }
 
 // Some window is open or ends after now.
-pub fn dst_usable(d: TimeZoneStoreData, now: u64) -> bool
-    ensures { λ r. ⌜ r ≡ usable (listsOf d) now ⌝ }
+pub fn dst_usable(table: &[u8], utc: u64) -> bool
+    ensures { λ r. ⌜ r ≡ usable (listsIn (now (table .entry))) utc ⌝ }
 {
-    let n = least(d.dst_offset_count, 16);
+    let n = window_count(table);
     let mut i: usize = 0;
     while i < n {
-        let w = d.dst_offset[i];
+        let w = i;
         i += 1;
-        if is_usable(w, now) {
+        if is_usable(table, w, utc) {
             return true;
         }
     }
@@ -95,19 +111,26 @@ pub fn dst_usable(d: TimeZoneStoreData, now: u64) -> bool
 }
 
 // There is no window at all.
-pub fn dst_table_empty(d: TimeZoneStoreData) -> bool
-    ensures { λ r. ⌜ r ≡ tableEmpty (listsOf d) ⌝ }
+pub fn dst_table_empty(table: &[u8]) -> bool
+    ensures { λ r. ⌜ r ≡ tableEmpty (listsIn (now (table .entry))) ⌝ }
 {
-    d.dst_offset_count == 0
+    window_count(table) == 0
 }
 
-// A window that is listed.
-fn window_there(w: DSTOffsetEntry) -> DSTOffsetListed
-    ensures { λ r. ⌜ r ≡ windowListed (some w) ⌝ }
+// The window with index i, listed.
+fn window_there(table: &[u8], i: usize) -> DSTOffsetListed
+    requires { ⌜ i < 16 ⌝ }
+    ensures { λ r. ⌜ r ≡ windowListed (some (windowEntry (windowAt (now (table .entry)) (windowPlace i)))) ⌝ }
 {
+    let at = window_place(i);
+    let window = DSTOffsetEntry {
+        offset: i32_at(table, at),
+        valid_starting: u64_at(table, at + START),
+        valid_until: window_end(table, i),
+    };
     DSTOffsetListed {
         there: true,
-        window: w,
+        window,
     }
 }
 
@@ -115,25 +138,23 @@ fn window_there(w: DSTOffsetEntry) -> DSTOffsetListed
 fn no_window() -> DSTOffsetListed
     ensures { λ r. ⌜ r ≡ windowListed none ⌝ }
 {
-    let blank = DSTOffsetEntry {
+    let window = DSTOffsetEntry {
         offset: 0,
         valid_starting: 0,
         valid_until: MaybeU64::Nothing,
     };
     DSTOffsetListed {
         there: false,
-        window: blank,
+        window,
     }
 }
 
 // The window at an index.
-pub fn dst_offset_at(d: TimeZoneStoreData, i: usize) -> DSTOffsetListed
-    ensures { λ r. ⌜ r ≡ windowListedAt d i ⌝ }
+pub fn dst_offset_at(table: &[u8], i: usize) -> DSTOffsetListed
+    ensures { λ r. ⌜ r ≡ windowListedIn (now (table .entry)) i ⌝ }
 {
-    let n = least(d.dst_offset_count, 16);
-    if i < n {
-        let w = d.dst_offset[i];
-        return window_there(w);
+    if i < window_count(table) {
+        return window_there(table, i);
     }
     no_window()
 }

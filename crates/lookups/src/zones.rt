@@ -1,98 +1,120 @@
 // Lookups in the list of zones.
+ghost use mathlib.Core.Bool.{true};
 ghost use mathlib.Core.Path.{_≡_};
-ghost use mathlib.Core.Option.{some, none};
+ghost use Prim.Native.Nat.{_+_, _<_};
+ghost use Rattle.word.specs.Place.{wordAt};
 ghost use Rattle.model.specs.Lookups.{activeZone};
-ghost use Rattle.record.specs.Data.{listsOf};
-ghost use Rattle.lookups.specs.Shown.{shown, activeShown, zoneListed, zoneListedAt};
-use crate::ActiveTimeZone;
-use crate::TimeZoneListed;
-use record::TimeZoneOwned;
-use record::TimeZoneStoreData;
+ghost use Rattle.table.specs.Layout.{zonePlace, listsIn};
+ghost use Rattle.lookups.specs.Shown.{shownAt, blankShown, shownBy, activeIndex, zoneListedIn};
+use crate::ZoneListed;
+use crate::ZoneShown;
+use crate::zone_place;
+use table::layout::MARK;
+use table::layout::MOST_NAME;
+use table::layout::NAME;
+use table::layout::NAME_LENGTH;
+use table::layout::START;
+use table::layout::zone_count;
 use word::least;
+use word::or_zero::i32_at;
+use word::or_zero::u8_at;
+use word::or_zero::u64_at;
 
-// What is shown of a zone.
-fn shown_of(z: TimeZoneOwned) -> ActiveTimeZone
-    ensures { λ r. ⌜ r ≡ shown (some z) ⌝ }
+// The start of the zone with index i.
+fn zone_start(table: &[u8], i: usize) -> u64
+    requires { ⌜ i < 8 ⌝ }
+    ensures { λ r. ⌜ r ≡ wordAt 8 (now (table .entry)) (zonePlace i + 4) ⌝ }
 {
-    let name = z.name;
-    ActiveTimeZone {
-        offset: z.offset,
-        named: z.named,
-        name_len: z.name_len,
-        name,
+    u64_at(table, zone_place(i) + START)
+}
+
+// The zone with index i.
+fn zone_shown(table: &[u8], i: usize) -> ZoneShown
+    requires { ⌜ i < 8 ⌝ }
+    ensures { λ r. ⌜ r ≡ shownAt (now (table .entry)) (zonePlace i) ⌝ }
+{
+    let at = zone_place(i);
+    let offset = i32_at(table, at);
+    let valid_at = u64_at(table, at + START);
+    if u8_at(table, at + MARK) == 0 {
+        return ZoneShown {
+            offset,
+            valid_at,
+            named: false,
+            name_at: 0,
+            name_len: 0,
+        };
+    }
+    let name_len = least(u8_at(table, at + NAME_LENGTH) as usize, MOST_NAME);
+    ZoneShown {
+        offset,
+        valid_at,
+        named: true,
+        name_at: at + NAME,
+        name_len,
     }
 }
 
-// What is shown where no zone has started.
-fn no_zone() -> ActiveTimeZone
-    ensures { λ r. ⌜ r ≡ shown none ⌝ }
+// What is shown where there is no zone.
+pub fn no_zone() -> ZoneShown
+    ensures { λ r. ⌜ r ≡ blankShown ⌝ }
 {
-    ActiveTimeZone {
+    ZoneShown {
         offset: 0,
+        valid_at: 0,
         named: false,
+        name_at: 0,
         name_len: 0,
-        name: [0u8; 64],
     }
 }
 
 // The last zone that has started, looked for from the end.
-pub fn active_time_zone(d: TimeZoneStoreData, now: u64) -> ActiveTimeZone
-    ensures { λ r. ⌜ r ≡ activeShown d now ⌝ }
+pub fn active_time_zone(table: &[u8], utc: u64) -> ZoneShown
+    ensures { λ r. ⌜ r ≡ shownBy (now (table .entry)) (activeIndex (now (table .entry)) utc) ⌝ }
 {
-    let mut i = least(d.time_zone_count, 8);
+    let mut i = zone_count(table);
     while 0 < i {
         i -= 1;
-        let z = d.time_zone[i];
-        if z.valid_at <= now {
-            return shown_of(z);
+        if zone_start(table, i) <= utc {
+            return zone_shown(table, i);
         }
     }
     no_zone()
 }
 
 // The offset of the active zone.
-pub fn zone_offset(d: TimeZoneStoreData, now: u64) -> i32
-    ensures { λ r. ⌜ r ≡ activeZone (listsOf d) now .offset ⌝ }
+pub fn zone_offset(table: &[u8], utc: u64) -> i32
+    ensures { λ r. ⌜ r ≡ activeZone (listsIn (now (table .entry))) utc .offset ⌝ }
 {
-    let zone = active_time_zone(d, now);
+    let zone = active_time_zone(table, utc);
     zone.offset
 }
 
 // A zone that is listed.
-fn zone_there(z: TimeZoneOwned) -> TimeZoneListed
-    ensures { λ r. ⌜ r ≡ zoneListed (some z) ⌝ }
+fn zone_there(zone: ZoneShown) -> ZoneListed
+    ensures { λ r. ⌜ r ≡ record { there = true; zone = zone } ⌝ }
 {
-    TimeZoneListed {
-        there: true,
-        zone: z,
-    }
+    ZoneListed { there: true, zone }
 }
 
-// No zone is listed.
-fn zone_missing() -> TimeZoneListed
-    ensures { λ r. ⌜ r ≡ zoneListed none ⌝ }
+// The blank zone, listed or not.
+fn blank_listed(there: bool) -> ZoneListed
+    ensures { λ r. ⌜ r ≡ record { there = there; zone = blankShown } ⌝ }
 {
-    let blank = record::owned::blank_zone();
-    TimeZoneListed {
-        there: false,
-        zone: blank,
-    }
+    let zone = no_zone();
+    ZoneListed { there, zone }
 }
 
 // The listed zone at an index; an empty list shows one zone.
-pub fn time_zone_at(d: TimeZoneStoreData, i: usize) -> TimeZoneListed
-    ensures { λ r. ⌜ r ≡ zoneListedAt d i ⌝ }
+pub fn time_zone_at(table: &[u8], i: usize) -> ZoneListed
+    ensures { λ r. ⌜ r ≡ zoneListedIn (now (table .entry)) i ⌝ }
 {
-    let n = least(d.time_zone_count, 8);
+    let n = zone_count(table);
     if i < n {
-        let z = d.time_zone[i];
-        return zone_there(z);
+        return zone_there(zone_shown(table, i));
     }
     if 0 < n {
-        return zone_missing();
+        return blank_listed(false);
     }
-    if i == 0 {
-        return zone_there(record::owned::blank_zone());
-    }
-    zone_missing()
+    blank_listed(i == 0)
 }

@@ -128,11 +128,11 @@ pub kept-sized : (r : Rules) (l : Lists) (a : SizedCall) → Accepted r l → Ac
 unfolding afterSized
 kept-sized r l a k = by-test (noSpace r l a) (λ e. rw e k) (λ e. rw e (kept-after r l (a .call) k))
 
-rules-sized : (s : Store) (a : SizedCall) → storeAfterSized s a .rules ≡ s .rules
+pub rules-sized : (s : Store) (a : SizedCall) → storeAfterSized s a .rules ≡ s .rules
 unfolding storeAfterSized
 rules-sized s a = by-test (noSpace (s .rules) (s .lists) a) (λ e. rw e) (λ e. rw e (follows s (a .call) .rules))
 
-lists-sized : (s : Store) (a : SizedCall) → storeAfterSized s a .lists ≡ afterSized (s .rules) (s .lists) a
+pub lists-sized : (s : Store) (a : SizedCall) → storeAfterSized s a .lists ≡ afterSized (s .rules) (s .lists) a
 unfolding storeAfterSized afterSized
 lists-sized s a = by-test (noSpace (s .rules) (s .lists) a) (λ e. rw e) (λ e. rw e (follows s (a .call) .lists))
 

@@ -15,3 +15,7 @@ pub mod Stored
 pub mod Table
 pub mod Range
 pub mod Maybe
+pub mod Panel
+pub mod Looks
+pub mod ClockLaws
+pub mod RetryLaws

@@ -82,8 +82,8 @@ pub data Effect : Type 0 where
   emit : Event → Effect
   wakeTimer : Effect
   wakeClient : Effect
-  -- the record of the lists, by its bytes
-  storeRecord : List ℕ → Effect
+  -- the record of the lists that the call leaves
+  storeRecord : Effect
   removeRecord : Effect
   -- the last-known moment
   storeMoment : ℕ → Effect

@@ -34,6 +34,14 @@ module _ {A : Type 0} where
   abbrev pub ofStore : Device → Result Store A → Result Device A
   ofStore d r = record { state = record { clock = d .clock; store = some (r .state) }; answer = r .answer; effects = r .effects }
 
+abbrev pub storedRecord : Option Store → List ℕ
+storedRecord none = []
+storedRecord (some s) = T.recordOf s
+
+-- the record of the lists as they now are; without a list store there is none
+abbrev pub recordOf : Device → List ℕ
+recordOf d = storedRecord (d .store)
+
 -- ## SetUTCTime
 
 -- the request may leave the time source out; a number above 16 is unreadable, any other is ignored

@@ -22,4 +22,8 @@ pub mod Table
 pub mod Demand3
 pub mod RoundTrip
 pub mod Claims
+pub mod Panel
+pub mod Looks
+pub mod ClockLaws
+pub mod RetryLaws
 pub mod Examples

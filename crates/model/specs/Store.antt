@@ -44,7 +44,7 @@ timeZoneSet s bytes accepted =
     record {
       state = changedBy s (SetTimeZone bytes);
       answer = answers true;
-      effects = wakeTimer ∷ storeRecord (recordOf (changedBy s (SetTimeZone bytes))) ∷ report TimeZone ∷ report DSTOffset ∷ [];
+      effects = wakeTimer ∷ storeRecord ∷ report TimeZone ∷ report DSTOffset ∷ [];
     }
 timeZoneSet s bytes (turnedDown cause) = unchanged s cause
 
@@ -59,7 +59,7 @@ windowsTested s bytes accepted =
     record {
       state = changedBy s (SetDSTOffset bytes);
       answer = done;
-      effects = wakeTimer ∷ storeRecord (recordOf (changedBy s (SetDSTOffset bytes))) ∷ report DSTOffset ∷ [];
+      effects = wakeTimer ∷ storeRecord ∷ report DSTOffset ∷ [];
     }
 windowsTested s bytes (turnedDown cause) =
     record { state = changedBy s (SetDSTOffset bytes); answer = refused cause; effects = wakeTimer ∷ [] }

@@ -5,8 +5,6 @@ pub mod Sections
 pub mod Indexed
 pub mod Reader
 pub mod Requests
-pub mod Writes
-pub mod Entries
 pub mod Meaning
 pub mod Names
 pub mod AtIndex

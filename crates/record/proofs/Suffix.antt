@@ -21,9 +21,6 @@ pub record Left (s t : List ℕ) : Type 0 where
   pub within : at ≤ length s
   pub is : t ≡ drop at s
 
-pub left-all : (s : List ℕ) → Left s s
-left-all s = record { at = 0; within = omega arith; is = refl }
-
 pub left-on : {s t u : List ℕ} → Left s t → Left t u → Left s u
 left-on {s} {t} {u} a b =
     let w : b .at ≤ length s - a .at = omega (arith, b .within, ap length (a .is), length-drop (a .at) s) in
@@ -59,9 +56,6 @@ then-leaves {A} {B} first next f g s b t h = go (first s) refl h
     go : (x : Front A) → first s ≡ x → then x next ≡ some (b, t) → Left s t
     go none e k = no (b, t) k
     go (some p) e k = left-on (f s (p .0) (p .1) e) (g (p .0) (p .1) b t k)
-
-done-leaves : {A B : Type 0} (make : A → B) (a : A) → Leaves (λ s. some (make a, s))
-done-leaves make a s b t h = let e = snd-of (make a) b s t h in record { at = 0; within = omega arith; is = sym e }
 
 module _ {A B : Type 0} (tail : ℕ → List ℕ → Front A) (make : ℤ → ℕ → A → B) (leaves : (m : ℕ) → Leaves (tail m)) where
   pub entry-leaves : Leaves (readEntry tail make)

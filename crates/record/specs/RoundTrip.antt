@@ -1,12 +1,12 @@
--- What the answers of the readers and of the writer mean, and that writing and reading undo each other.
+-- What the answers of the readers mean, and that writing and reading undo each other.
 use mathlib.Core.List.{List, []}
 use mathlib.Core.Option.{Option, none, some}
 use mathlib.Core.Path.{_≡_}
-use Prim.Native.Nat.{ℕ, _+_, _<_}
+use Prim.Native.Nat.{ℕ, _+_, _≤_, _<_}
 use lib.ListN.{length, take, drop, getElem?}
 use Rattle.model.specs.Lists.{Zone, Window, Lists}
 use Rattle.model.specs.Rules.{largest}
-use Rattle.model.specs.Bytes.{readZone, readWindow, readAll, readZones, readWindows, readRecord}
+use Rattle.model.specs.Bytes.{readZone, readWindow, readAll, readZones, readWindows, recordBytes, readRecord}
 use Rattle.model.specs.Demand3.{Accepted}
 use Rattle.model.specs.RoundTrip.{AreBytes, ListsFit}
 use Rattle.model.specs.Maybe.{optionU64}
@@ -17,9 +17,8 @@ use Rattle.record.specs.declared.DSTOffsetRead.the-variants as W
 use Rattle.record.specs.declared.SectionRead.{SectionRead}
 use Rattle.record.specs.declared.SectionRead.the-variants as S
 use Rattle.record.specs.declared.RecordRead.the-variants as R
-use Rattle.record.specs.declared.TimeZoneStoreData.{TimeZoneStoreData}
 use Rattle.record.specs.declared.Record.{Record}
-use Rattle.record.specs.Data.{zoneNamed, listsOf, dataOf}
+use Rattle.record.specs.Data.{zoneNamed}
 use Rattle.record.specs.Fronts.{zonesWhole, windowsWhole, recordAt, zoneEntry, windowEntry}
 use Rattle.record.specs.Written.{recordOf}
 
@@ -75,14 +74,10 @@ pub record RecordMeans (s : List ℕ) : Type 0 where
 abbrev pub bytesOf : Record → List ℕ
 bytesOf r = take (r .length) (r .bytes)
 
--- what `write::record` writes reads back as the lists: `written-reads` in proofs/Again.antt
+-- the record of lists that fit, written to the buffer, reads back as the lists: `written-reads` in proofs/Again.antt
 abbrev pub WrittenReads : Type 0
-WrittenReads = (d : TimeZoneStoreData) → ListsFit (listsOf d) → readRecord (bytesOf (recordOf (listsOf d))) ≡ some (listsOf d)
+WrittenReads = (l : Lists) → ListsFit l → length (recordBytes l) ≤ 962 → readRecord (bytesOf (recordOf l)) ≡ some l
 
--- lists that the commands accept, put by value, stand for themselves, and their record is the bytes that they were read from: `read-writes` in proofs/Again.antt
-pub record Rewritten (s : List ℕ) (l : Lists) : Type 0 where
-  pub same : listsOf (dataOf l) ≡ l
-  pub again : bytesOf (recordOf (listsOf (dataOf l))) ≡ s
-
+-- a record that is read and accepted is written back byte for byte: `read-writes` in proofs/Again.antt
 abbrev pub ReadWrites : Type 0
-ReadWrites = (s : List ℕ) (l : Lists) → AreBytes s → readRecord s ≡ some l → Accepted largest l → Rewritten s l
+ReadWrites = (s : List ℕ) (l : Lists) → AreBytes s → readRecord s ≡ some l → Accepted largest l → bytesOf (recordOf l) ≡ s

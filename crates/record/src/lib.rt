@@ -1,35 +1,8 @@
-// The bytes of the lists: sections read at a place of a slice, and the record written.
-pub mod owned;
+// The bytes of the lists: sections read at a place of a slice, and the buffer of a written record.
 pub mod read;
 pub mod section;
-pub mod write;
 
-ghost use mathlib.Core.Path.{_≡_};
 use model::MaybeU64;
-
-// A time zone as it is stored: the first `name_len` bytes of `name` are its name, where it has one.
-pub struct TimeZoneOwned {
-    pub offset: i32,
-    pub valid_at: u64,
-    pub named: bool,
-    pub name_len: usize,
-    pub name: [u8; 64],
-}
-
-// A window of summer time; a missing end means that it is open.
-pub struct DSTOffsetEntry {
-    pub offset: i32,
-    pub valid_starting: u64,
-    pub valid_until: MaybeU64,
-}
-
-// Both lists: the first entries of each array, as many as its count says.
-pub struct TimeZoneStoreData {
-    pub time_zone: [TimeZoneOwned; 8],
-    pub time_zone_count: usize,
-    pub dst_offset: [DSTOffsetEntry; 16],
-    pub dst_offset_count: usize,
-}
 
 // Where a name stands in the bytes that were read.
 pub enum NamePlace {

@@ -1,3 +1,3 @@
-pub mod Digits
 pub mod Words
 pub mod Texts
+pub mod Inputs

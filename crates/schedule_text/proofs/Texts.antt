@@ -1,94 +1,49 @@
--- Texts written over zeros, and what is printed of lists that were read.
-use mathlib.Core.List.{List, _++_}
-use mathlib.Core.Option.{Option, none, some}
-use mathlib.Core.Path.{_≡_, refl, sym, ap, _∙_}
-use Prim.Native.Nat.{ℕ, _+_, _-_, _≤_, _<_}
+-- Texts written over zeros, and what is printed of a record that was read.
+use mathlib.Core.List.{List, _++_, append-assoc}
+use mathlib.Core.Path.{_≡_, ap, _∙_}
+use Prim.Native.Nat.{ℕ, _+_, _-_, _≤_}
 use native.Mathlib.Omega.{arith}
-use borrow.Author.Tests.{lt-ltb, le-ltb, le-leb}
-use lib.ListN.{length, take, drop, replicate}
+use lib.ListN.{length, drop, replicate}
 use Rattle.model.specs.Lists.{Lists}
-use Rattle.model.specs.Rules as M
-use Rattle.model.specs.Rules.{largest}
-use Rattle.model.specs.History.{Load, verdict, recordVerdict, ifAccepted}
-use Rattle.model.specs.Walk.{walk}
-use Rattle.model.specs.Bytes.{number, readRecord}
-use Rattle.model.specs.Schedule.{walkText, recordText, refused7, schedule}
-use Rattle.word.specs.Place.{wordAt}
-use Rattle.model.specs.declared.Refusal.{Refusal}
-use Rattle.model.proofs.Accepted.{zones-fit, windows-fit, record-accepted}
-use Rattle.record.specs.declared.TimeZoneStoreData.{TimeZoneStoreData}
-use Rattle.record.specs.Data.{listsOf}
-use Rattle.record.proofs.Again.{data-same}
-use Rattle.record.proofs.Writes.{zeros, drop-zeros}
-use Rattle.rules.specs.declared.Verdict.{Verdict}
-use Rattle.rules.specs.declared.Verdict.the-variants.{Accepted, TurnedDown}
-use Rattle.rules.specs.Verdicts.{recordTested}
-use Rattle.rules.proofs.Agree.{records-are, is-accepted, is-turned-down}
-use Rattle.taken.specs.ByValue.{listsTaken}
-use Rattle.taken.proofs.Whole.{lists-whole}
+use Rattle.model.specs.Bytes.{allBytes}
+use Rattle.model.specs.Walk.{Walk}
+use Rattle.model.specs.Schedule.{header, stepsWord, newLine, decimal, line, walkText}
+use Rattle.word.specs.Place.{put}
+use Rattle.word.proofs.Writes.{zeros, length-zeros, drop-zeros, all-short}
+use Rattle.text.proofs.Digits.{decimal-length}
+use Rattle.text.proofs.Runs.{Written, Run, no-word, same-length, word, put-more}
 use Rattle.schedule_text.specs.Texts.{textOf}
-use Rattle.schedule_text.proofs.Words.{Columns}
+use Rattle.schedule_text.proofs.Words.{line-length}
 
 -- words over zeros from the front on are a text
-pub text-is : {xs out : List ℕ} {n most : ℕ} → Columns (zeros 2879) 0 xs out n most → record { bytes = out; length = n } ≡ textOf xs
+pub text-is : {xs out : List ℕ} {n most : ℕ} → Run (zeros 2879) 0 xs out n most → record { bytes = out; length = n } ≡ textOf xs
 unfolding textOf
 text-is {xs} {out} {n} {most} c =
     let e : 0 + length xs ≡ length xs = omega arith in
     ap (λ (b : List ℕ). record { bytes = b; length = n })
-    (c .wrote .is ∙ ap (λ (k : ℕ). xs ++ drop k (zeros 2879)) e ∙ ap (λ (l : List ℕ). xs ++ l) (drop-zeros (length xs) 2879))
+    (c .is ∙ ap (λ (k : ℕ). xs ++ drop k (zeros 2879)) e ∙ ap (λ (l : List ℕ). xs ++ l) (drop-zeros (length xs) 2879))
     ∙ ap (λ (k : ℕ). record { bytes = xs ++ replicate (2879 - length xs) 0; length = k }) (c .place ∙ e)
 
--- ## What was read
+-- the header
+module _ (s₁ : List ℕ) (n₁ : ℕ) (p₁ : Written (zeros 2879) 0 header s₁ n₁) where
+  header-run : Run (zeros 2879) 0 header s₁ n₁ 23
+  header-run = let z = length-zeros 2879 in word (zeros 2879) 0 (no-word (zeros 2879) 0 (omega arith)) header s₁ n₁ 23 p₁ (omega arith) (omega arith)
 
--- lists that are accepted are taken whole
-module _ (m : ℕ) where
-  pub accepted-text : (f : Option Lists) → recordVerdict largest f ≡ M.accepted → walkText (listsOf (listsTaken f)) (walk (listsOf (listsTaken f)) m) ≡ recordText f m
-  accepted-text none h = let z : _≡_ {A = ℕ} 0 1 = cc in absurd (omega arith)
-  accepted-text (some l) h =
-      let a = record-accepted largest l h in
-      let z = zones-fit largest (l .zones) (a .zones) in
-      let w = windows-fit largest (l .windows) (a .windows) in
-      let e : listsOf (listsTaken (some l)) ≡ l = ap listsOf (lists-whole l (omega arith) (omega arith)) ∙ data-same l a in
-      ap (λ (k : Lists). walkText k (walk k m)) e ∙ sym (ap (λ (v : M.Verdict). ifAccepted v (walkText l (walk l m)) refused7) h)
+  pub lines-fit : n₁ + 2829 ≤ length s₁
+  lines-fit = omega (arith, header-run .within, same-length (zeros 2879) 0 header-run, length-zeros 2879)
 
-  pub refused-text : (f : Option Lists) (cause : Refusal) → recordVerdict largest f ≡ M.turnedDown cause → refused7 ≡ recordText f m
-  refused-text none cause h = refl
-  refused-text (some l) cause h = sym (ap (λ (v : M.Verdict). ifAccepted v (walkText l (walk l m)) refused7) h)
+  -- the lines of a walk after it, and the steps after them
+  module _ (l : Lists) (w : Walk) (few : length (w .moments) ≤ 41) (s₂ : List ℕ) (n₂ : ℕ) (p₂ : (s₂ ≡ put s₁ n₁ (allBytes (line l) (w .moments))) × (n₂ ≡ n₁ + length (allBytes (line l) (w .moments)))) where
+    lines-run : Run (zeros 2879) 0 (header ++ allBytes (line l) (w .moments)) s₂ n₂ 2852
+    lines-run =
+        let short : length (allBytes (line l) (w .moments)) ≤ 2829 = omega (arith, all-short (line l) 69 (line-length l) (w .moments)) in
+        put-more (zeros 2879) 0 header-run (allBytes (line l) (w .moments)) s₂ n₂ 2829 p₂ short (omega (arith, header-run .within, length-zeros 2879))
 
--- ## What is read
-
-module _ (s : List ℕ) where
-  pub too-short : length s < 8 → refused7 ≡ schedule s
-  unfolding schedule
-  too-short h = rw (lt-ltb (length s) 8 h)
-
-  pub too-long : 970 < length s → refused7 ≡ schedule s
-  unfolding schedule
-  too-long h = rw (le-ltb (length s) 8 (omega arith), lt-ltb 970 (length s) h)
-
-  module _ (h : 8 ≤ length s) (k : length s ≤ 970) where
-    pub as-read : recordText (readRecord (drop 8 s)) (number (take 8 s)) ≡ schedule s
-    unfolding schedule
-    as-read = rw (le-ltb (length s) 8 h, le-ltb 970 (length s) k)
-
-    pub moment-is : wordAt 8 s 0 ≡ number (take 8 s)
-    unfolding wordAt
-    moment-is = rw (le-leb 8 (length s) h)
-
-  -- the bytes after the moment, and what is said of them as a record
-  module _ (part : List ℕ) (p : part ≡ drop 8 s) (h : 8 ≤ length s) (k : length s ≤ 970) (v : Verdict) (e : v ≡ recordTested 8 16 part) where
-    pub bad-record : (cause : Refusal) → v ≡ TurnedDown cause → refused7 ≡ schedule s
-    unfolding verdict
-    bad-record cause f =
-        let t = is-turned-down (verdict largest (Load (some part))) cause (sym (records-are largest part) ∙ sym e ∙ f) in
-        refused-text (number (take 8 s)) (readRecord part) cause t
-        ∙ ap (λ (b : List ℕ). recordText (readRecord b) (number (take 8 s))) p ∙ as-read h k
-
-    pub good-record : (d : TimeZoneStoreData) (m : ℕ) → v ≡ Accepted → d ≡ listsTaken (readRecord part) → m ≡ wordAt 8 s 0 → walkText (listsOf d) (walk (listsOf d) m) ≡ schedule s
-    unfolding verdict
-    good-record d m f g n =
-        let t = is-accepted (verdict largest (Load (some part))) (sym (records-are largest part) ∙ sym e ∙ f) in
-        ap (λ (x : TimeZoneStoreData). walkText (listsOf x) (walk (listsOf x) m)) g
-        ∙ accepted-text m (readRecord part) t
-        ∙ ap (λ (x : ℕ). recordText (readRecord part) x) (n ∙ moment-is h k)
-        ∙ ap (λ (b : List ℕ). recordText (readRecord b) (number (take 8 s))) p ∙ as-read h k
+    pub walk-text : (s₃ : List ℕ) (n₃ : ℕ) → Written s₂ n₂ stepsWord s₃ n₃ → (s₄ : List ℕ) (n₄ : ℕ) → Written s₃ n₃ (decimal (w .steps)) s₄ n₄
+        → (s₅ : List ℕ) (n₅ : ℕ) → Written s₄ n₄ newLine s₅ n₅ → record { bytes = s₅; length = n₅ } ≡ textOf (walkText l w)
+    walk-text s₃ n₃ p₃ s₄ n₄ p₄ s₅ n₅ p₅ =
+        let z = length-zeros 2879 in
+        let r₃ = word (zeros 2879) 0 lines-run stepsWord s₃ n₃ 6 p₃ (omega arith) (omega arith) in
+        let r₄ = word (zeros 2879) 0 r₃ (decimal (w .steps)) s₄ n₄ 20 p₄ (decimal-length (w .steps)) (omega arith) in
+        let r₅ = word (zeros 2879) 0 r₄ newLine s₅ n₅ 1 p₅ (omega arith) (omega arith) in
+        text-is r₅ ∙ ap textOf (simp append-assoc)

@@ -1,46 +1,20 @@
--- The words of a line: what is written, the place after it, and how long it can be.
+-- The words of a line, and how long it can be.
 use mathlib.Core.Bool.{Bool, true, false}
-use mathlib.Core.List.{List, [], _∷_, _++_}
+use mathlib.Core.List.{List, [], _++_, append-assoc}
 use mathlib.Core.Option.{Option, none, some}
-use mathlib.Core.Path.{_≡_, refl, sym, subst}
-use Prim.Native.Nat.{ℕ, suc, _+_, _≤_, _<_}
+use mathlib.Core.Path.{_≡_}
+use Prim.Native.Nat.{ℕ, _+_, _≤_}
 use native.Mathlib.Omega.{arith}
-use lib.Dec.{T}
-use lib.IntN.{ℤ, pos, negsuc}
-use lib.ListN.{length, set, length-append}
-use lib.Signed.{leZ}
+use lib.IntN.{ℤ}
+use lib.ListN.{length, length-append}
 use Rattle.model.specs.Lists.{Lists}
 use Rattle.model.specs.Lookups.{activeZone, activeOffset, usable}
 use Rattle.model.specs.Schedule.{decimal, signedDecimal, offsetOrDash, yesOrNo, space, newLine, line}
-use Rattle.word.specs.Place.{put}
-use Rattle.word.proofs.Integers as integers
-use Rattle.record.proofs.Writes.{Wrote, wrote-none, wrote-put, wrote-byte, same-length}
-use Rattle.schedule_text.specs.Texts.{magnitude}
-use Rattle.schedule_text.proofs.Digits.{decimal-length}
-
--- `out` is `s` with the bytes from `at` on, and `next` is the place after them
-abbrev pub Put : List ℕ → ℕ → List ℕ → List ℕ → ℕ → Type 0
-Put s at bs out next = (out ≡ put s at bs) × (next ≡ at + length bs)
-
--- the same bytes
-pub put-as : (s : List ℕ) (at : ℕ) (out : List ℕ) (next : ℕ) {bs cs : List ℕ} → bs ≡ cs → Put s at bs out next → Put s at cs out next
-put-as s at out next e p = subst (λ (l : List ℕ). Put s at l out next) e p
-
--- ## Signs
-
-pub signed-up : (z : ℤ) → leZ (pos 0) z ≡ true → decimal (magnitude z) ≡ signedDecimal z
-signed-up (pos n) e = refl
-signed-up (negsuc n) e = absurd (subst T (sym e) tt)
-
-pub signed-down : (z : ℤ) → leZ (pos 0) z ≡ false → 45 ∷ decimal (magnitude z) ≡ signedDecimal z
-signed-down (pos n) e = absurd (integers.none n e)
-signed-down (negsuc n) e = refl
+use Rattle.text.proofs.Digits.{decimal-length}
+use Rattle.text.proofs.Signs.{signed-length}
+use Rattle.text.proofs.Runs.{Written, Run, no-word, run-as, word}
 
 -- ## Lengths
-
-pub signed-length : (z : ℤ) → length (signedDecimal z) ≤ 21
-signed-length (pos n) = omega (arith, decimal-length n)
-signed-length (negsuc n) = omega (arith, decimal-length (suc n))
 
 pub offset-length : (o : Option ℤ) → length (offsetOrDash o) ≤ 21
 offset-length none = omega arith
@@ -50,53 +24,47 @@ pub yes-length : (b : Bool) → length (yesOrNo b) ≤ 3
 yes-length true = omega arith
 yes-length false = omega arith
 
-pub line-length : (l : Lists) (m : ℕ) → length (line l m) ≤ 69
-unfolding line
-line-length l m =
-    let z = activeZone l m .offset in
-    let o = activeOffset l m in
-    let b = usable l m in
-    omega (
-      arith,
-      decimal-length m,
-      signed-length z,
-      offset-length o,
-      yes-length b,
-      length-append (decimal m) (space ++ (signedDecimal z ++ (space ++ (offsetOrDash o ++ (space ++ (yesOrNo b ++ newLine)))))),
-      length-append (signedDecimal z) (space ++ (offsetOrDash o ++ (space ++ (yesOrNo b ++ newLine)))),
-      length-append (offsetOrDash o) (space ++ (yesOrNo b ++ newLine)),
-      length-append (yesOrNo b) newLine,
-    )
+-- a line of these words
+abbrev words : ℕ → ℤ → Option ℤ → Bool → List ℕ
+words m z o b = [] ++ decimal m ++ space ++ signedDecimal z ++ space ++ offsetOrDash o ++ space ++ yesOrNo b ++ newLine
 
--- ## A row of words, one after another from `at` on
+-- what the words say is what a reader sees, so they are the line
+module _ (l : Lists) (m : ℕ) where
+  as-line : (z : ℤ) (o : Option ℤ) (b : Bool) → z ≡ activeZone l m .offset → o ≡ activeOffset l m → b ≡ usable l m → words m z o b ≡ line l m
+  unfolding line
+  as-line z o b e f g = rw (e, f, g) (simp append-assoc)
 
-module _ (s : List ℕ) (at : ℕ) where
-  -- `xs` stands from `at` on, and the next word goes to `next`, which is not after `most`
-  pub record Columns (xs out : List ℕ) (next most : ℕ) : Type 0 where
-    pub wrote : Wrote s at xs out
-    pub place : next ≡ at + length xs
-    pub within : next ≤ most
+  pub line-length : length (line l m) ≤ 69
+  unfolding line
+  line-length =
+      let z = activeZone l m .offset in
+      let o = activeOffset l m in
+      let b = usable l m in
+      omega (
+        arith,
+        decimal-length m,
+        signed-length z,
+        offset-length o,
+        yes-length b,
+        length-append (decimal m) (space ++ (signedDecimal z ++ (space ++ (offsetOrDash o ++ (space ++ (yesOrNo b ++ newLine)))))),
+        length-append (signedDecimal z) (space ++ (offsetOrDash o ++ (space ++ (yesOrNo b ++ newLine)))),
+        length-append (offsetOrDash o) (space ++ (yesOrNo b ++ newLine)),
+        length-append (yesOrNo b) newLine,
+      )
 
-  pub no-column : at ≤ length s → Columns [] s at at
-  no-column h = record { wrote = wrote-none h; place = omega arith; within = omega arith }
-
-  module _ {xs out : List ℕ} {next most : ℕ} (c : Columns xs out next most) (ws out₁ : List ℕ) (next₁ m : ℕ) (p : Put out next ws out₁ next₁) (l : length ws ≤ m) (r : most + m ≤ length s) where
-    -- one word more
-    pub word : Columns (xs ++ ws) out₁ next₁ (most + m)
-    word =
-        record {
-          wrote = wrote-put (c .wrote) ws next out₁ (c .place) (omega (arith, c .within)) (p .0);
-          place = omega (arith, p .1, c .place, length-append xs ws);
-          within = omega (arith, p .1, c .within);
-        }
-
-  -- one byte more, where it has room
-  pub byte : {xs out : List ℕ} {next most : ℕ} → Columns xs out next most → (b : ℕ) → most < length s → (next < length out) × Columns (xs ++ (b ∷ [])) (set out next b) (next + 1) (most + 1)
-  byte {xs} {out} {next} {most} c b r = (
-    omega (arith, same-length (c .wrote), c .within),
-    record {
-      wrote = wrote-byte (c .wrote) b next (set out next b) (c .place) (omega (arith, c .within)) refl;
-      place = omega (arith, c .place, length-append xs (b ∷ []));
-      within = omega (arith, c .within);
-    },
-  )
+  -- eight words, each after the one before
+  module _ (s : List ℕ) (at : ℕ) (room : at + 69 ≤ length s) (z : ℤ) (o : Option ℤ) (b : Bool) (e : z ≡ activeZone l m .offset) (f : o ≡ activeOffset l m) (g : b ≡ usable l m) where
+    pub line-run : (s₁ : List ℕ) (n₁ : ℕ) → Written s at (decimal m) s₁ n₁ → (s₂ : List ℕ) (n₂ : ℕ) → Written s₁ n₁ space s₂ n₂
+        → (s₃ : List ℕ) (n₃ : ℕ) → Written s₂ n₂ (signedDecimal z) s₃ n₃ → (s₄ : List ℕ) (n₄ : ℕ) → Written s₃ n₃ space s₄ n₄
+        → (s₅ : List ℕ) (n₅ : ℕ) → Written s₄ n₄ (offsetOrDash o) s₅ n₅ → (s₆ : List ℕ) (n₆ : ℕ) → Written s₅ n₅ space s₆ n₆
+        → (s₇ : List ℕ) (n₇ : ℕ) → Written s₆ n₆ (yesOrNo b) s₇ n₇ → (s₈ : List ℕ) (n₈ : ℕ) → Written s₇ n₇ newLine s₈ n₈
+        → Run s at (line l m) s₈ n₈ (at + 20 + 1 + 21 + 1 + 21 + 1 + 3 + 1)
+    line-run s₁ n₁ w₁ s₂ n₂ w₂ s₃ n₃ w₃ s₄ n₄ w₄ s₅ n₅ w₅ s₆ n₆ w₆ s₇ n₇ w₇ s₈ n₈ w₈ =
+        let r₁ = word s at (no-word s at (omega arith)) (decimal m) s₁ n₁ 20 w₁ (decimal-length m) (omega arith) in
+        let r₂ = word s at r₁ space s₂ n₂ 1 w₂ (omega arith) (omega arith) in
+        let r₃ = word s at r₂ (signedDecimal z) s₃ n₃ 21 w₃ (signed-length z) (omega arith) in
+        let r₄ = word s at r₃ space s₄ n₄ 1 w₄ (omega arith) (omega arith) in
+        let r₅ = word s at r₄ (offsetOrDash o) s₅ n₅ 21 w₅ (offset-length o) (omega arith) in
+        let r₆ = word s at r₅ space s₆ n₆ 1 w₆ (omega arith) (omega arith) in
+        let r₇ = word s at r₆ (yesOrNo b) s₇ n₇ 3 w₇ (yes-length b) (omega arith) in
+        run-as s at (as-line z o b e f g) (word s at r₇ newLine s₈ n₈ 1 w₈ (omega arith) (omega arith))

@@ -1,20 +1,32 @@
 // The text that the schedule program prints: the coming transitions of stored lists, as one whole.
 mod lines;
-mod numbers;
 
 ghost use mathlib.Core.Path.{_≡_};
 ghost use Prim.Native.Nat.{_≤_};
 ghost use lib.ListN.{length};
 ghost use Rattle.model.specs.Walk.{walk};
 ghost use Rattle.model.specs.Schedule.{refused7, walkText, schedule};
-ghost use Rattle.record.specs.Data.{listsOf};
+ghost use Rattle.table.specs.Layout.{listsIn};
 ghost use Rattle.schedule_text.specs.Texts.{textOf};
-use record::TimeZoneStoreData;
 use rules::Verdict;
+use table::layout::MOST_WINDOWS;
+use table::layout::MOST_ZONES;
+use table::layout::SIZE;
+use text::put_decimal;
+use text::put_word;
 
-// Some text, zeros after it, and how many bytes it has; 41 lines of 69 bytes with the header and the steps need no more.
+// The longest text: 41 lines of 69 bytes, with the header and the steps.
+const MOST_TEXT: usize = 2879;
+
+// The bytes of the moment, which stands before the record.
+const MOMENT_SIZE: usize = 8;
+
+// The longest input: a moment and the longest record.
+const MOST_INPUT: usize = 970;
+
+// Some text, zeros after it, and how many bytes it has.
 pub struct Text {
-    pub bytes: [u8; 2879],
+    pub bytes: [u8; MOST_TEXT],
     pub length: usize,
 }
 
@@ -22,23 +34,23 @@ pub struct Text {
 fn refused() -> Text
     ensures { λ r. ⌜ r ≡ textOf refused7 ⌝ }
 {
-    let mut out = [0u8; 2879];
-    let length = numbers::put_bytes(&mut out, 0, b"refused 7\n");
+    let mut out = [0u8; MOST_TEXT];
+    let length = put_word(&mut out, 0, b"refused 7\n");
     Text { bytes: out, length }
 }
 
-// What is printed of lists from a moment on: the header, a line for each walked moment, and the steps.
-fn walked(lists: TimeZoneStoreData, start: u64) -> Text
-    ensures { λ r. ⌜ r ≡ textOf (walkText (listsOf lists) (walk (listsOf lists) start)) ⌝ }
+// What is printed of the lists in a table from a moment on: the header, a line for each walked moment, and the steps.
+fn walked(table: &[u8], start: u64) -> Text
+    ensures { λ r. ⌜ r ≡ textOf (walkText (listsIn (now (table .entry))) (walk (listsIn (now (table .entry))) start)) ⌝ }
 {
-    let mut out = [0u8; 2879];
-    let walk = lookups::transitions::walk(lists, start);
+    let mut out = [0u8; MOST_TEXT];
+    let walk = lookups::transitions::walk(table, start);
     let steps = walk.steps as u64;
-    let first = numbers::put_bytes(&mut out, 0, b"moment zone dst usable\n");
-    let last = lines::put_lines(&mut out, first, lists, walk);
-    let number = numbers::put_bytes(&mut out, last, b"steps ");
-    let end = numbers::put_decimal(&mut out, number, steps);
-    let length = numbers::put_bytes(&mut out, end, b"\n");
+    let first = put_word(&mut out, 0, b"moment zone dst usable\n");
+    let last = lines::put_lines(&mut out, first, table, walk);
+    let number = put_word(&mut out, last, b"steps ");
+    let end = put_decimal(&mut out, number, steps);
+    let length = put_word(&mut out, end, b"\n");
     Text { bytes: out, length }
 }
 
@@ -47,15 +59,16 @@ pub fn schedule(input: &[u8]) -> Text
     ensures says { λ r. ⌜ r ≡ textOf (schedule (now (input .entry))) ⌝ }
     ensures fits { λ r. ⌜ r .length ≤ length (r .bytes) ⌝ }
 {
-    if input.len() < 8 {
+    if input.len() < MOMENT_SIZE {
         return refused();
     }
-    if 970 < input.len() {
+    if MOST_INPUT < input.len() {
         return refused();
     }
-    let record = &input[8..];
-    match rules::stored(record, 8, 16) {
+    let mut table = [0u8; SIZE];
+    table::new(&mut table, MOST_ZONES, MOST_WINDOWS);
+    match table::load(&mut table, &input[MOMENT_SIZE..]) {
         Verdict::TurnedDown(_) => refused(),
-        Verdict::Accepted => walked(taken::lists(record), word::or_zero::u64_at(input, 0)),
+        Verdict::Accepted => walked(&table, word::or_zero::u64_at(input, 0)),
     }
 }

@@ -1,6 +1,6 @@
 -- Equal meanings are of equal values.
 use mathlib.Core.Bool.{Bool, true, false}
-use mathlib.Core.List.{append-nil, append-cancel-right}
+use mathlib.Core.List.{[], append-nil, append-cancel-right}
 use mathlib.Core.Option.{Option, none, some}
 use mathlib.Core.Path.{_≡_, refl, sym, ap, _∙_}
 use Prim.Native.Nat.{ℕ}
@@ -8,6 +8,10 @@ use Rattle.model.specs.Basics.{when, keep}
 use Rattle.model.specs.Maybe.{optionU64}
 use Rattle.model.specs.Answers.{emit}
 use Rattle.model.specs.Retries as R
+use Rattle.model.specs.RetryLaws.{Kind, missingSource, timeFailure, eventOf, emits}
+use Rattle.model.proofs.Facts.{keep-append, keep-when}
+use Rattle.model.proofs.RetryLaws.{keep-reports, pick}
+use Rattle.rtc.specs.Meaning.{momentStored}
 use Rattle.rtc.specs.Laws.{Injective}
 use Rattle.rtc.proofs.Back as clock
 use Rattle.time_sync_client.specs.declared.Utc.the-variants as U
@@ -19,9 +23,7 @@ use Rattle.time_sync_client.specs.declared.Wait.{Wait}
 use Rattle.time_sync_client.specs.declared.Wait.the-variants as W
 use Rattle.time_sync_client.specs.declared.Effects.{Effects}
 use Rattle.time_sync_client.specs.Meaning.{clientOf, optionUtc, optionNumber, toldOf, outcomeOf, refreshOf, nextOf, settingEffects, eventEffects, effectsOf, stepOf}
-use Rattle.time_sync_client.specs.Runs.{Kind, missingSource, timeFailure, eventOf, emits}
 use Rattle.time_sync_client.specs.Laws.{OneResult}
-use Rattle.time_sync_client.proofs.Emitted.{keep-append, keep-when, keep-reports, keep-stored, pick}
 
 one-client : Injective clientOf
 one-client a b e = λ i. record {
@@ -108,6 +110,12 @@ one-stored false none none e = cc
 one-stored false none (some n) e = cc
 one-stored false (some m) none e = cc
 one-stored false (some m) (some n) e = cc
+
+-- storing a moment emits nothing
+keep-stored : (kind : Kind) (stored : Option ℕ) → keep (emits kind) (momentStored stored) ≡ []
+unfolding keep
+keep-stored kind none = refl
+keep-stored kind (some moment) = refl
 
 emitted : (kind : Kind) (e : Effects) → keep (emits kind) (effectsOf e) ≡ when (pick kind (e .«missing_trusted_time_source») (e .«time_failure»)) (emit (eventOf kind))
 emitted missingSource e = simp (keep-append, keep-reports, keep-stored, keep-when, append-nil)

@@ -1,4 +1,1 @@
-pub mod Emitted
 pub mod Back
-pub mod Waits
-pub mod Events

@@ -1,4 +1,3 @@
--- What the client's records stand for, its runs, and what holds of them.
+-- What the client's records stand for, and what holds of it.
 pub mod Meaning
-pub mod Runs
 pub mod Laws

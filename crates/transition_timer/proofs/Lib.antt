@@ -1,4 +1,1 @@
 pub mod Same
-pub mod Again
-pub mod Edges
-pub mod Sleeps

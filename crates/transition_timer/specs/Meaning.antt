@@ -1,17 +1,16 @@
--- What the structs of this crate stand for in the definitions, and a look over the structs.
+-- What the structs of this crate stand for in the definitions, and a look over a table.
 use mathlib.Core.Bool.{Bool, true, false, _&&_, cond}
-use mathlib.Core.List.{_++_}
+use mathlib.Core.List.{List, _++_}
 use mathlib.Core.Option.{Option, none, some}
 use Prim.Native.Nat.{ℕ, _+_, _-_}
 use Rattle.model.specs.Basics.{heldAtTop, isSome, when}
 use Rattle.model.specs.Answers.{TimeZoneStatus, DSTStatus, DSTTableEmpty}
 use Rattle.model.specs.Lookups.{activeOffset, usable, nextTransition}
 use Rattle.model.specs.Timer as T
-use Rattle.record.specs.declared.TimeZoneStoreData.{TimeZoneStoreData}
-use Rattle.record.specs.Data.{listsOf}
-use Rattle.lookups.specs.declared.ActiveTimeZone.{ActiveTimeZone}
-use Rattle.lookups.specs.Shown.{shown, activeShown}
-use Rattle.lookups.specs.Laws.{zoneNowOf}
+use Rattle.table.specs.Layout.{listsIn}
+use Rattle.lookups.specs.declared.ZoneShown.{ZoneShown}
+use Rattle.lookups.specs.Shown.{blankShown, shownBy, activeIndex}
+use Rattle.lookups.specs.Laws.{shownName}
 use Rattle.rtc.specs.declared.UtcTime.{UtcTime}
 use Rattle.rtc.specs.declared.UtcTime.the-variants.{Reliable, LastKnown}
 use Rattle.transition_timer.specs.declared.Seen.{Seen}
@@ -37,26 +36,26 @@ sleepOf Never = T.never
 sleepOf UntilWoken = T.untilWoken
 sleepOf (AtMost us) = T.atMost us
 
--- a look: each event where its mark says so, in the order of the definitions
-abbrev pub lookOf : Look → T.Look
-lookOf r =
+-- a look: each event where its mark says so, in the order of the definitions; the name out of the table
+abbrev pub lookOf : List ℕ → Look → T.Look
+lookOf t r =
     record {
       timer = timerOf (r .seen);
       events =
-          when (r .«zone_status») (TimeZoneStatus (zoneNowOf (r .zone) .offset) (zoneNowOf (r .zone) .name))
+          when (r .«zone_status») (TimeZoneStatus (r .zone .offset) (shownName t (r .zone)))
           ++ (when (r .«dst_status») (DSTStatus (r .«dst_active»)) ++ when (r .«dst_table_empty») DSTTableEmpty);
       sleep = sleepOf (r .sleep);
     }
 
--- ## A look over the structs
+-- ## A look over a table
 
 -- what is seen where this zone is the active one
-abbrev pub seenFrom : ActiveTimeZone → Bool → Bool → Seen
+abbrev pub seenFrom : ZoneShown → Bool → Bool → Seen
 seenFrom zone active usable = record { offset = zone .offset; active = active; usable = usable }
 
 -- what is seen of the lists at a moment
-abbrev pub seenBy : TimeZoneStoreData → ℕ → Seen
-seenBy d now = seenFrom (activeShown d now) (isSome (activeOffset (listsOf d) now)) (usable (listsOf d) now)
+abbrev pub seenBy : List ℕ → ℕ → Seen
+seenBy t now = seenFrom (shownBy t (activeIndex t now)) (isSome (activeOffset (listsIn t) now)) (usable (listsIn t) now)
 
 -- the sleep until 100,000 µs past the next transition, held at the top
 abbrev pub sleepBy : Option ℕ → ℕ → Sleep
@@ -69,7 +68,7 @@ quietBy last sleep =
     record {
       seen = last;
       «zone_status» = false;
-      zone = shown none;
+      zone = blankShown;
       «dst_status» = false;
       «dst_active» = false;
       «dst_table_empty» = false;
@@ -77,12 +76,12 @@ quietBy last sleep =
     }
 
 -- a look that sees `new` at a reliable clock: what an event carries is blank where the event is not due
-abbrev pub lookSeeing : LastSeen → Seen → ActiveTimeZone → Sleep → Look
+abbrev pub lookSeeing : LastSeen → Seen → ZoneShown → Sleep → Look
 lookSeeing last new zone sleep =
     record {
       seen = Saw new;
       «zone_status» = T.zoneDue (timerOf last) (seenOf new);
-      zone = cond (T.zoneDue (timerOf last) (seenOf new)) zone (shown none);
+      zone = cond (T.zoneDue (timerOf last) (seenOf new)) zone blankShown;
       «dst_status» = T.activeDue (timerOf last) (seenOf new);
       «dst_active» = T.activeDue (timerOf last) (seenOf new) && new .active;
       «dst_table_empty» = T.emptyDue (timerOf last) (seenOf new);
@@ -90,11 +89,11 @@ lookSeeing last new zone sleep =
     }
 
 -- a look at a reliable clock
-abbrev pub lookAt : LastSeen → TimeZoneStoreData → ℕ → Look
-lookAt last d now = lookSeeing last (seenBy d now) (activeShown d now) (sleepBy (nextTransition (listsOf d) now) now)
+abbrev pub lookAt : LastSeen → List ℕ → ℕ → Look
+lookAt last t now = lookSeeing last (seenBy t now) (shownBy t (activeIndex t now)) (sleepBy (nextTransition (listsIn t) now) now)
 
--- a look over the structs
-unfoldable pub lookBy : LastSeen → Bool → TimeZoneStoreData → UtcTime → Look
-lookBy last false d reading = quietBy last Never
-lookBy last true d (Reliable now) = lookAt last d now
-lookBy last true d (LastKnown moment) = quietBy last UntilWoken
+-- a look at a reading; the mark says whether there is a list store
+unfoldable pub lookBy : LastSeen → Bool → List ℕ → UtcTime → Look
+lookBy last false t reading = quietBy last Never
+lookBy last true t (Reliable now) = lookAt last t now
+lookBy last true t (LastKnown moment) = quietBy last UntilWoken

@@ -2,7 +2,7 @@
 pub mod due;
 pub mod looks;
 
-use lookups::ActiveTimeZone;
+use lookups::ZoneShown;
 
 // What a look sees: the zone's offset, whether a window is active, and whether one is usable.
 pub struct Seen {
@@ -24,11 +24,11 @@ pub enum Sleep {
     AtMost(u64),
 }
 
-// What was seen from now on, which events are due and what they carry, and the sleep.
+// What was seen from now on, which events are due and what they carry, a name by its place in the table, and the sleep.
 pub struct Look {
     pub seen: LastSeen,
     pub zone_status: bool,
-    pub zone: ActiveTimeZone,
+    pub zone: ZoneShown,
     pub dst_status: bool,
     pub dst_active: bool,
     pub dst_table_empty: bool,

@@ -1,10 +1,9 @@
 // A look of the timer.
 ghost use mathlib.Core.Bool.{cond, _&&_};
-ghost use mathlib.Core.Option.{none};
 ghost use mathlib.Core.Path.{_≡_};
 ghost use Rattle.model.specs.Basics.{isSome};
 ghost use Rattle.model.specs.Maybe.{optionI32};
-ghost use Rattle.lookups.specs.Shown.{shown};
+ghost use Rattle.lookups.specs.Shown.{blankShown};
 ghost use Rattle.transition_timer.specs.Meaning.{seenFrom, quietBy, lookAt, lookBy};
 use crate::LastSeen;
 use crate::Look;
@@ -14,13 +13,13 @@ use crate::due::active_due;
 use crate::due::empty_due;
 use crate::due::sleep_until;
 use crate::due::zone_due;
-use lookups::ActiveTimeZone;
+use lookups::ZoneShown;
 use lookups::transitions::next_transition;
 use lookups::windows::active_dst_offset;
 use lookups::windows::dst_usable;
 use lookups::zones::active_time_zone;
+use lookups::zones::no_zone;
 use model::MaybeI32;
-use record::TimeZoneStoreData;
 use rtc::UtcTime;
 
 // Whether there is an offset.
@@ -34,25 +33,13 @@ fn is_there(offset: MaybeI32) -> bool
 }
 
 // What is seen where this zone is the active one.
-fn seen_from(zone: ActiveTimeZone, active: bool, usable: bool) -> Seen
+fn seen_from(zone: ZoneShown, active: bool, usable: bool) -> Seen
     ensures { λ r. ⌜ r ≡ seenFrom zone active usable ⌝ }
 {
     Seen {
         offset: zone.offset,
         active: active,
         usable: usable,
-    }
-}
-
-// The zone of offset 0 with no name.
-fn blank_zone() -> ActiveTimeZone
-    ensures { λ r. ⌜ r ≡ shown none ⌝ }
-{
-    ActiveTimeZone {
-        offset: 0,
-        named: false,
-        name_len: 0,
-        name: [0u8; 64],
     }
 }
 
@@ -64,13 +51,13 @@ fn mark_told(told: bool, mark: bool) -> bool
 }
 
 // The zone where it is told, else the blank one.
-fn zone_told(told: bool, zone: ActiveTimeZone) -> ActiveTimeZone
-    ensures { λ r. ⌜ r ≡ cond told zone (shown none) ⌝ }
+fn zone_told(told: bool, zone: ZoneShown) -> ZoneShown
+    ensures { λ r. ⌜ r ≡ cond told zone blankShown ⌝ }
 {
     if told {
         return zone;
     }
-    blank_zone()
+    no_zone()
 }
 
 // A look that keeps what was seen and emits nothing.
@@ -80,7 +67,7 @@ fn quiet(last: LastSeen, sleep: Sleep) -> Look
     Look {
         seen: last,
         zone_status: false,
-        zone: blank_zone(),
+        zone: no_zone(),
         dst_status: false,
         dst_active: false,
         dst_table_empty: false,
@@ -89,12 +76,12 @@ fn quiet(last: LastSeen, sleep: Sleep) -> Look
 }
 
 // A look at a reliable clock.
-fn look_at(last: LastSeen, lists: TimeZoneStoreData, now: u64) -> Look
-    ensures { λ r. ⌜ r ≡ lookAt last lists now ⌝ }
+fn look_at(last: LastSeen, table: &[u8], utc: u64) -> Look
+    ensures { λ r. ⌜ r ≡ lookAt last (now (table .entry)) utc ⌝ }
 {
-    let zone = active_time_zone(lists, now);
-    let active = is_there(active_dst_offset(lists, now));
-    let new = seen_from(zone, active, dst_usable(lists, now));
+    let zone = active_time_zone(table, utc);
+    let active = is_there(active_dst_offset(table, utc));
+    let new = seen_from(zone, active, dst_usable(table, utc));
     let zone_status = zone_due(last, new);
     let dst_status = active_due(last, new);
     Look {
@@ -104,19 +91,19 @@ fn look_at(last: LastSeen, lists: TimeZoneStoreData, now: u64) -> Look
         dst_status: dst_status,
         dst_active: mark_told(dst_status, active),
         dst_table_empty: empty_due(last, new),
-        sleep: sleep_until(next_transition(lists, now), now),
+        sleep: sleep_until(next_transition(table, utc), utc),
     }
 }
 
 // A look: with no list store the timer never looks; on an unreliable clock it keeps what it saw and waits.
-pub fn look(last: LastSeen, there: bool, lists: TimeZoneStoreData, reading: UtcTime) -> Look
-    ensures { λ r. ⌜ r ≡ lookBy last there lists reading ⌝ }
+pub fn look(last: LastSeen, there: bool, table: &[u8], reading: UtcTime) -> Look
+    ensures { λ r. ⌜ r ≡ lookBy last there (now (table .entry)) reading ⌝ }
 {
     if !there {
         return quiet(last, Sleep::Never);
     }
     match reading {
-        UtcTime::Reliable(now) => look_at(last, lists, now),
+        UtcTime::Reliable(utc) => look_at(last, table, utc),
         UtcTime::LastKnown(_) => quiet(last, Sleep::UntilWoken),
     }
 }

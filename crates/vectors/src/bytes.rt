@@ -2,14 +2,11 @@
 use crate::text;
 use libc::STDOUT_FILENO;
 use model::MaybeU64;
-use record::DSTOffsetEntry;
 use record::DSTOffsetRead;
 use record::NamePlace;
 use record::RecordRead;
 use record::SectionRead;
-use record::TimeZoneOwned;
 use record::TimeZoneRead;
-use record::TimeZoneStoreData;
 
 // Whether the bytes are well-formed UTF-8.
 pub(crate) fn utf8(s: &[u8]) {

@@ -1,247 +1,163 @@
-// What a device answers to a script: a new clock and a list store of limits 2 and 2, and calls one after the other.
+// What a device answers to a script: a new image with a list store of limits 2 and 2, and entry points called one after the other.
+use crate::RECORD_MAX;
 use crate::listing;
+use controller::attributes::timesync_local_time;
+use controller::clock::timesync_new;
+use controller::clock::timesync_set_trusted_time_source;
+use controller::clock::timesync_set_utc_time;
+use controller::lists::timesync_load_lists;
+use controller::lists::timesync_set_dst_offset;
+use controller::lists::timesync_set_time_zone;
 use libc::STDOUT_FILENO;
-use local_time::LocalTime;
-use model::MaybeU64;
-use rtc::Rtc;
-use rules::Verdict;
-use time_sync::ListAnswer;
-use time_sync::MaybeNamed;
-use time_sync::MaybeU8;
-use time_sync::TimeSyncHandler;
-use time_zone_store::TimeZoneStore;
-use word::MaybeU32;
+use word::or_zero::put_u8;
+use word::or_zero::u32_at;
+use word::or_zero::u64_at;
 
-// The handler after a step, and how many bytes the step took.
-struct Stepped {
-    handler: TimeSyncHandler,
-    used: usize,
-}
+// How many bytes an image has.
+const IMAGE_SIZE: usize = 1136;
 
-// The number at a place; 0 where it is missing.
-fn moment(s: &[u8], at: usize) -> u64 {
-    match word::u64_at(s, at) {
-        MaybeU64::Nothing => 0,
-        MaybeU64::Is(n) => n,
-    }
-}
+// The place in an image of its mark of a list store.
+const LIST_STORE: usize = 4;
 
-// Writes an answer's number: 0 where the call was taken.
-pub(crate) fn told(answer: Verdict) {
-    match answer {
-        Verdict::Accepted => {
-            io::write_all(STDOUT_FILENO, b" 0");
-        }
-        Verdict::TurnedDown(cause) => {
-            io::write_all(STDOUT_FILENO, b" ");
-            io::print_decimal(STDOUT_FILENO, model::refusal_number(cause) as u64);
-        }
-    }
-}
+// The place in a step of what stands behind its letter: a moment, a tick, an index, a length or a fabric index.
+const ARGUMENT: usize = 1;
 
-// Writes a local time.
-fn shown(t: LocalTime) {
-    match t {
-        LocalTime::Null => {
-            io::write_all(STDOUT_FILENO, b" null");
-        }
-        LocalTime::NotFound => {
-            io::write_all(STDOUT_FILENO, b" 6");
-        }
-        LocalTime::At(utc) => {
-            io::write_all(STDOUT_FILENO, b" ");
-            io::print_decimal(STDOUT_FILENO, utc);
-        }
-    }
+// The places of the granularity and the tick in a step that sets the UTC time.
+const GRANULARITY: usize = 9;
+
+const TICK: usize = 10;
+
+// How many bytes a step has: a letter alone, with a fabric index, with a tick or an index, and one that sets the UTC time.
+const LETTER_SIZE: usize = 1;
+
+const FABRIC_SIZE: usize = 2;
+
+const NUMBER_SIZE: usize = 9;
+
+const UTC_SIZE: usize = 18;
+
+// How many bytes stand before the section or the record of a step: its letter and a length.
+const HEAD_SIZE: usize = 5;
+
+// Writes the number of what a call returned, which is its lowest byte: 0 where the call was taken.
+pub(crate) fn told(returned: u64) {
+    io::write_all(STDOUT_FILENO, b" ");
+    io::print_decimal(STDOUT_FILENO, returned % 256);
 }
 
 // SetUTCTime: moment, granularity, tick.
-fn utc_time(h: TimeSyncHandler, s: &[u8]) -> Stepped {
-    if s.len() < 18 {
-        return Stepped {
-            handler: h,
-            used: 0,
-        };
+fn utc_time(image: &mut [u8], s: &[u8]) -> usize {
+    if s.len() < UTC_SIZE {
+        return 0;
     }
-    let r = h.set_utc_time(moment(s, 1), s[9], MaybeU8::Nothing, moment(s, 10));
-    let answer = r.answer;
-    told(answer);
-    let handler = r.handler;
-    Stepped { handler, used: 18 }
+    let moment = u64_at(s, ARGUMENT);
+    let tick = u64_at(s, TICK);
+    told(timesync_set_utc_time(image, moment, s[GRANULARITY], 0, 0, tick));
+    UTC_SIZE
 }
 
 // LocalTime: tick.
-fn local(h: TimeSyncHandler, s: &[u8]) -> Stepped {
-    shown(h.local_time(moment(s, 1)));
-    Stepped {
-        handler: h,
-        used: 9,
+fn local(image: &[u8], s: &[u8]) -> usize {
+    let mut there: u64 = 0;
+    let mut utc: u64 = 0;
+    let r = timesync_local_time(image, u64_at(s, ARGUMENT), &mut there, &mut utc);
+    if r != 0 {
+        told(r);
+    } else if there == 0 {
+        io::write_all(STDOUT_FILENO, b" null");
+    } else {
+        io::write_all(STDOUT_FILENO, b" ");
+        io::print_decimal(STDOUT_FILENO, utc);
     }
+    NUMBER_SIZE
 }
 
-// A length in 4 bytes; 0 where it is missing.
-fn size(s: &[u8], at: usize) -> usize {
-    match word::u32_at(s, at) {
-        MaybeU32::Nothing => 0,
-        MaybeU32::Is(n) => n as usize,
+// SetTimeZone or SetDSTOffset with a section, or a load of a record.
+fn asked(image: &mut [u8], letter: u8, given: &[u8]) -> u64 {
+    if letter == b'R' {
+        return timesync_load_lists(image, 1, given);
     }
+    let mut out = [0u8; RECORD_MAX];
+    let mut used: u64 = 0;
+    if letter == b'Z' {
+        return timesync_set_time_zone(image, given, &mut out, &mut used);
+    }
+    timesync_set_dst_offset(image, given, &mut out, &mut used)
 }
 
-// SetTimeZone or SetDSTOffset with a section.
-fn asked(h: TimeSyncHandler, section: &[u8], zones: bool) -> ListAnswer {
-    if zones {
-        return h.set_time_zone(section);
+// A list command or a load: the length of its section or record, and its bytes.
+fn list(image: &mut [u8], s: &[u8], letter: u8) -> usize {
+    if s.len() < HEAD_SIZE {
+        return 0;
     }
-    h.set_dst_offset(section)
-}
-
-// A list command: the length of its section, and the section.
-fn list(h: TimeSyncHandler, s: &[u8], zones: bool) -> Stepped {
-    if s.len() < 5 {
-        return Stepped {
-            handler: h,
-            used: 0,
-        };
+    let n = u32_at(s, ARGUMENT) as usize;
+    if s.len() - HEAD_SIZE < n {
+        return 0;
     }
-    let n = size(s, 1);
-    if s.len() - 5 < n {
-        return Stepped {
-            handler: h,
-            used: 0,
-        };
-    }
-    let r = asked(h, &s[5..5 + n], zones);
-    let answer = r.answer;
-    told(answer);
-    let handler = r.handler;
-    Stepped {
-        handler,
-        used: 5 + n,
-    }
-}
-
-// A load of the lists: the length of the record, and the record.
-fn load(h: TimeSyncHandler, s: &[u8]) -> Stepped {
-    if s.len() < 5 {
-        return Stepped {
-            handler: h,
-            used: 0,
-        };
-    }
-    let n = size(s, 1);
-    if s.len() - 5 < n {
-        return Stepped {
-            handler: h,
-            used: 0,
-        };
-    }
-    let r = h.load_lists(true, &s[5..5 + n]);
-    let answer = r.answer;
-    told(answer);
-    let handler = r.handler;
-    Stepped {
-        handler,
-        used: 5 + n,
-    }
+    told(asked(image, letter, &s[HEAD_SIZE..HEAD_SIZE + n]));
+    HEAD_SIZE + n
 }
 
 // SetTrustedTimeSource with a node 1 and its endpoint 2: the fabric index.
-fn trusted(h: TimeSyncHandler, fabric: u8) -> Stepped {
-    let r = h.set_trusted_time_source(fabric, MaybeNamed::Is(1, 2));
-    let answer = r.answer;
-    told(answer);
-    let handler = r.handler;
-    Stepped { handler, used: 2 }
+fn trusted(image: &mut [u8], fabric: u8) -> usize {
+    told(timesync_set_trusted_time_source(image, fabric, 1, 1, 2));
+    FABRIC_SIZE
 }
 
-// The device from here on, without its list store.
-fn without_store(h: TimeSyncHandler) -> Stepped {
-    let rtc = h.rtc;
-    let store = h.store;
-    Stepped {
-        handler: TimeSyncHandler {
-            rtc,
-            has_store: false,
-            store,
-        },
-        used: 1,
-    }
+// The device from here on without its list store: 0 is written to the image's mark of one.
+fn without_store(image: &mut [u8]) -> usize {
+    put_u8(image, LIST_STORE, 0);
+    LETTER_SIZE
 }
 
 // A step that reads the lists: how many entries are listed, or the one at an index.
-fn listed(h: TimeSyncHandler, s: &[u8], letter: u8) -> Stepped {
+fn listed(image: &[u8], s: &[u8], letter: u8) -> usize {
     if letter == b'C' {
-        listing::counts(h);
-        return Stepped {
-            handler: h,
-            used: 1,
-        };
+        listing::counts(image);
+        return LETTER_SIZE;
     }
-    let index = moment(s, 1) as usize;
+    let index = u64_at(s, ARGUMENT) as usize;
     if letter == b'A' {
-        listing::zone(h, index);
+        listing::zone(image, index);
     } else {
-        listing::window(h, index);
+        listing::window(image, index);
     }
-    Stepped {
-        handler: h,
-        used: 9,
-    }
+    NUMBER_SIZE
 }
 
 // The step at the front, by its letter, where it is none of the clock's.
-fn list_step(h: TimeSyncHandler, s: &[u8], letter: u8) -> Stepped {
+fn list_step(image: &mut [u8], s: &[u8], letter: u8) -> usize {
     if letter == b'N' {
-        return without_store(h);
-    }
-    if letter == b'R' {
-        return load(h, s);
+        return without_store(image);
     }
     if letter < b'D' {
-        return listed(h, s, letter);
+        return listed(image, s, letter);
     }
-    list(h, s, letter == b'Z')
+    list(image, s, letter)
 }
 
-// The step at the front, by its letter.
-fn step(h: TimeSyncHandler, s: &[u8]) -> Stepped {
+// The step at the front, by its letter; answers how many bytes it took, and 0 where it cannot be read.
+fn step(image: &mut [u8], s: &[u8]) -> usize {
     if s.len() < 1 {
-        return Stepped {
-            handler: h,
-            used: 0,
-        };
+        return 0;
     }
     if s[0] == b'U' {
-        return utc_time(h, s);
+        return utc_time(image, s);
     }
     if s[0] == b'L' {
-        return local(h, s);
+        return local(image, s);
     }
-    if s[0] == b'T' && 1 < s.len() {
-        return trusted(h, s[1]);
+    if s[0] == b'T' && ARGUMENT < s.len() {
+        return trusted(image, s[ARGUMENT]);
     }
-    list_step(h, s, s[0])
+    list_step(image, s, s[0])
 }
 
-// A new device.
-fn device() -> TimeSyncHandler {
-    let made = TimeZoneStore::new(2, 2);
-    let store = made.store;
-    TimeSyncHandler {
-        rtc: Rtc::new(0),
-        has_store: true,
-        store,
-    }
-}
-
-// Runs a script, and writes what each step answers; it ends where no step can be read.
-pub(crate) fn script(s: &[u8]) {
-    let mut h = device();
+// Runs the steps of a script on an image, and writes what each answers; it ends where no step can be read.
+fn steps(image: &mut [u8], s: &[u8]) {
     let mut at: usize = 0;
     while at < s.len() {
-        let r = step(h, &s[at..]);
-        let used = r.used;
-        h = r.handler;
+        let used = step(image, &s[at..]);
         if used == 0 {
             return;
         }
@@ -250,4 +166,11 @@ pub(crate) fn script(s: &[u8]) {
         }
         at += used;
     }
+}
+
+// Runs a script on a new device; its build moment and the client's period are 0.
+pub(crate) fn script(s: &[u8]) {
+    let mut image = [0u8; IMAGE_SIZE];
+    timesync_new(&mut image, 1, 2, 2, 0, 0);
+    steps(&mut image, s);
 }

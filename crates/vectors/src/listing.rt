@@ -1,27 +1,30 @@
 // What a device answers about its lists: how many entries are listed, and one of them.
+use crate::NAME_MAX;
 use crate::device::told;
 use crate::text;
+use controller::attributes::timesync_dst_offset_count;
+use controller::attributes::timesync_time_zone_count;
+use controller::entries::timesync_dst_offset;
+use controller::entries::timesync_time_zone;
 use libc::STDOUT_FILENO;
-use model::MaybeU64;
-use rules::Verdict;
-use time_sync::NumberRead;
-use time_sync::TimeSyncHandler;
 
-// Writes a number that was read, or the refusal's.
-fn number(n: NumberRead) {
-    match n {
-        NumberRead::Is(count) => {
-            io::write_all(STDOUT_FILENO, b" ");
-            io::print_decimal(STDOUT_FILENO, count as u64);
-        }
-        NumberRead::Refused(cause) => told(Verdict::TurnedDown(cause)),
+// Writes a count that was read, or the refusal's number.
+fn count(returned: u64, n: u64) {
+    if returned != 0 {
+        told(returned);
+        return;
     }
+    io::write_all(STDOUT_FILENO, b" ");
+    io::print_decimal(STDOUT_FILENO, n);
 }
 
 // How many zones are listed, and how many windows.
-pub(crate) fn counts(h: TimeSyncHandler) {
-    number(h.time_zone_count());
-    number(h.dst_offset_count());
+pub(crate) fn counts(image: &[u8]) {
+    let mut n: u64 = 0;
+    let zones = timesync_time_zone_count(image, &mut n);
+    count(zones, n);
+    let windows = timesync_dst_offset_count(image, &mut n);
+    count(windows, n);
 }
 
 // Writes an offset and a start.
@@ -41,35 +44,39 @@ fn named(name: &[u8], n: usize) {
 }
 
 // The listed zone at an index, with its name as it is.
-pub(crate) fn zone(h: TimeSyncHandler, index: usize) {
-    let r = h.time_zone(index);
-    let answer = r.answer;
-    told(answer);
-    let zone = r.zone;
-    let offset = zone.offset;
-    head(offset, zone.valid_at);
-    if zone.named {
-        let name = zone.name;
-        named(&name, zone.name_len);
+pub(crate) fn zone(image: &[u8], index: usize) {
+    let mut name = [0u8; NAME_MAX];
+    let mut offset: i32 = 0;
+    let mut start: u64 = 0;
+    let mut is_named: u64 = 0;
+    let mut n: u64 = 0;
+    told(timesync_time_zone(
+        image,
+        index,
+        &mut name,
+        &mut offset,
+        &mut start,
+        &mut is_named,
+        &mut n,
+    ));
+    head(offset, start);
+    if is_named != 0 {
+        named(&name, n as usize);
     }
     io::write_all(STDOUT_FILENO, b")");
 }
 
 // The listed window at an index.
-pub(crate) fn window(h: TimeSyncHandler, index: usize) {
-    let r = h.dst_offset(index);
-    let answer = r.answer;
-    told(answer);
-    let window = r.window;
-    let offset = window.offset;
-    head(offset, window.valid_starting);
-    let until = window.valid_until;
-    match until {
-        MaybeU64::Nothing => {}
-        MaybeU64::Is(end) => {
-            io::write_all(STDOUT_FILENO, b" to ");
-            io::print_decimal(STDOUT_FILENO, end);
-        }
+pub(crate) fn window(image: &[u8], index: usize) {
+    let mut offset: i32 = 0;
+    let mut start: u64 = 0;
+    let mut closed: u64 = 0;
+    let mut end: u64 = 0;
+    told(timesync_dst_offset(image, index, &mut offset, &mut start, &mut closed, &mut end));
+    head(offset, start);
+    if closed != 0 {
+        io::write_all(STDOUT_FILENO, b" to ");
+        io::print_decimal(STDOUT_FILENO, end);
     }
     io::write_all(STDOUT_FILENO, b")");
 }

@@ -8,6 +8,11 @@ mod text;
 
 use libc::STDOUT_FILENO;
 
+// Room for the longest name and the longest record.
+pub(crate) const NAME_MAX: usize = 64;
+
+pub(crate) const RECORD_MAX: usize = 962;
+
 // Answers what a letter asks about some bytes.
 fn ask_bytes(letter: u8, given: &[u8]) {
     if letter == b'u' {

@@ -3,7 +3,6 @@ ghost use Prim.Native.Nat.{_≤_};
 ghost use lib.ListN.{length};
 ghost use Rattle.io.specs.Counts.{Counts};
 use libc::STDOUT_FILENO;
-use word::MaybeU32;
 
 // Where the line that starts at `at` ends.
 pub(crate) fn line_end(s: &[u8], at: usize) -> usize
@@ -119,9 +118,7 @@ pub(crate) fn number(s: &[u8], k: usize) -> u64 {
 pub(crate) fn signed(z: i32) {
     let mut b = [0u8; 4];
     word::put_i32(&mut b, 0, z);
-    let MaybeU32::Is(n) = word::u32_at(&b, 0) else {
-        return;
-    };
+    let n = word::or_zero::u32_at(&b, 0);
     if n < 0x8000_0000 {
         io::print_decimal(STDOUT_FILENO, n as u64);
         return;

@@ -3,3 +3,5 @@ pub mod Integers
 pub mod Rows
 pub mod Places
 pub mod Answers
+pub mod Frame
+pub mod Writes

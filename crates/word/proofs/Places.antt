@@ -8,10 +8,10 @@ use native.Mathlib.Omega.{arith}
 use borrow.Author.Tests.{le-leb, lt-leb, leb-true, leb-false}
 use lib.Dec.{leb}
 use lib.ListN.{length, take, drop, length-drop}
-use lib.Seq.{drop-drop}
+use lib.Seq.{drop-drop, length-take-le}
 use Rattle.model.specs.Bytes.{takeBytes, number, bytes, wellFormed}
 use Rattle.model.proofs.Words.{length-bytes}
-use Rattle.word.specs.Place.{fitsAt, numberAt, wordAt, textAt, put, placed}
+use Rattle.word.specs.Place.{fitsAt, numberAt, wordAt, textAt, put, placed, copied}
 use Rattle.model.proofs.Facts.{by-test}
 
 module _ (w : ℕ) (s : List ℕ) (at : ℕ) where
@@ -87,3 +87,31 @@ text-there n s at t = go (fitsAt s at n) t
 pub placed-there : (s : List ℕ) (at : ℕ) (bs : List ℕ) → at + length bs ≤ length s → placed s at bs ≡ put s at bs
 unfolding placed
 placed-there s at bs h = rw (le-leb (at + length bs) (length s) h)
+
+-- ## A part copied, by what `in_bounds` answered of both slices
+
+module _ (s : List ℕ) (at : ℕ) (t : List ℕ) (from n : ℕ) {a : Bool} (f : a ≡ fitsAt t from n) where
+  pub copied-none : a ≡ false → copied s at t from n ≡ s
+  unfolding copied
+  copied-none p = rw (sym f ∙ p)
+
+  module _ (p : a ≡ true) {b : Bool} (g : b ≡ fitsAt s at n) where
+    pub copied-is : b ≡ true → copied s at t from n ≡ put s at (take n (drop from t))
+    unfolding copied
+    copied-is q = rw (sym f ∙ p, sym g ∙ q)
+
+    pub copied-short : b ≡ false → copied s at t from n ≡ s
+    unfolding copied
+    copied-short q = rw (sym f ∙ p, sym g ∙ q)
+
+-- where both have the bytes
+pub copied-there : (s : List ℕ) (at : ℕ) (t : List ℕ) (from n : ℕ) → from + n ≤ length t → at + n ≤ length s → copied s at t from n ≡ put s at (take n (drop from t))
+unfolding copied
+copied-there s at t from n h k = rw (le-leb (from + n) (length t) h, le-leb (at + n) (length s) k)
+
+-- where the bytes are there, they are placed
+pub copied-placed : (s : List ℕ) (at : ℕ) (t : List ℕ) (from n : ℕ) → from + n ≤ length t → copied s at t from n ≡ placed s at (take n (drop from t))
+unfolding copied placed
+copied-placed s at t from n h =
+    let l : length (take n (drop from t)) ≡ n = length-take-le n (drop from t) (omega (arith, length-drop from t)) in
+    rw (le-leb (from + n) (length t) h, l)

@@ -1,5 +1,5 @@
 -- What stands at a place of some bytes, and what they are after a number is written there.
-use mathlib.Core.Bool.{Bool, false, cond}
+use mathlib.Core.Bool.{Bool, false, _&&_, cond}
 use mathlib.Core.List.{List, _++_}
 use mathlib.Core.Option.{Option, none, some}
 use Prim.Native.Nat.{ℕ, _+_}
@@ -38,6 +38,10 @@ put s at bs = take at s ++ bs ++ drop (at + length bs) s
 -- the same where they fit, else s as it was
 unfoldable pub placed : List ℕ → ℕ → List ℕ → List ℕ
 placed s at bs = cond (fitsAt s at (length bs)) (put s at bs) s
+
+-- s with the n bytes of t from `from` on copied to `at`, where both have so many; else s as it was
+unfoldable pub copied : List ℕ → ℕ → List ℕ → ℕ → ℕ → List ℕ
+copied s at t from n = cond (fitsAt t from n && fitsAt s at n) (put s at (take n (drop from t))) s
 
 -- the byte at `at`; 0 where there is none
 abbrev pub byteAt : List ℕ → ℕ → ℕ

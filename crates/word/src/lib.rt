@@ -8,7 +8,7 @@ ghost use Prim.Native.Nat.{_+_, _≤_, _^_, _<_, min};
 ghost use lib.ListN.{length, take, drop};
 ghost use Rattle.model.specs.Bytes.{number, bytes, bitsOf, signed};
 ghost use Rattle.model.specs.Maybe.{maybeU64, maybeI32};
-ghost use Rattle.word.specs.Place.{fitsAt, numberAt, signedAt, maybeU32, put, placed};
+ghost use Rattle.word.specs.Place.{fitsAt, numberAt, signedAt, maybeU32, put, placed, copied};
 use model::MaybeI32;
 use model::MaybeU64;
 
@@ -60,6 +60,29 @@ fn set(out: &mut [u8], at: usize, w: usize, v: u64)
         out[at + i] = (x % 256) as u8;
         x = x / 256;
         i += 1;
+    }
+}
+
+// Copies n bytes from `from` on to `at`.
+fn copy_there(out: &mut [u8], at: usize, s: &[u8], from: usize, n: usize)
+    requires { ⌜ (from + n ≤ length (now s)) × (at + n ≤ length (now out)) ⌝ }
+    ensures { λ _. ⌜ now (out .exit) ≡ put (now (out .entry)) at (take n (drop from (now (s .entry)))) ⌝ }
+{
+    let mut i: usize = 0;
+    while i < n {
+        out[at + i] = s[from + i];
+        i += 1;
+    }
+}
+
+// Copies n bytes of s from `from` on to `at`, where both slices have so many; else nothing.
+pub fn copy(out: &mut [u8], at: usize, s: &[u8], from: usize, n: usize)
+    ensures { λ _. ⌜ now (out .exit) ≡ copied (now (out .entry)) at (now (s .entry)) from n ⌝ }
+{
+    if in_bounds(s, from, n) {
+        if in_bounds(out, at, n) {
+            copy_there(out, at, s, from, n);
+        }
     }
 }
 

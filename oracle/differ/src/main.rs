@@ -5,12 +5,15 @@
 //!     differ --list FILE [--rows N] [--most BYTES]  histories with the oracle's answers
 //!
 //! Status 1 on a difference, which is made smaller and shown; 2 on arguments that say nothing.
+#![forbid(unsafe_code)]
+
 mod bytes;
 mod cases;
-mod ffi;
 mod input;
+mod lent;
 mod list;
 mod port;
+mod replay;
 mod rows;
 mod tally;
 mod world;
@@ -54,56 +57,68 @@ fn differs(case: Case, diff: Diff, again: &str) -> ! {
     exit(1)
 }
 
-fn main() {
-    std::panic::set_hook(Box::new(|_| {}));
-    if unsafe { ffi::timesync_image_size() } != port::IMAGE as u64 {
-        println!("the image has another size");
-        exit(1);
-    }
-    let (mut answers, mut seed, mut rows, mut most, mut file) = (ANSWERS, SEED, ROWS, MOST, None);
-    let mut plain = Vec::new();
+/// What the words of the command ask for
+struct Asked {
+    answers: u64,
+    seed: u64,
+    rows: u64,
+    most: u64,
+    file: Option<String>,
+    plain: Vec<u64>,
+}
+
+fn asked() -> Asked {
+    let mut asked = Asked { answers: ANSWERS, seed: SEED, rows: ROWS, most: MOST, file: None, plain: Vec::new() };
     let mut words = std::env::args().skip(1);
     while let Some(word) = words.next() {
         match word.as_str() {
-            "--answers" => answers = number(words.next()),
-            "--seed" => seed = number(words.next()),
-            "--rows" => rows = number(words.next()),
-            "--most" => most = number(words.next()),
-            "--list" => file = Some(words.next().unwrap_or_else(|| usage())),
-            _ => plain.push(number(Some(word))),
+            "--answers" => asked.answers = number(words.next()),
+            "--seed" => asked.seed = number(words.next()),
+            "--rows" => asked.rows = number(words.next()),
+            "--most" => asked.most = number(words.next()),
+            "--list" => asked.file = Some(words.next().unwrap_or_else(|| usage())),
+            _ => asked.plain.push(number(Some(word))),
         }
     }
-    if let Some(file) = file {
-        match list::write(&file, seed, rows, most as usize) {
-            Ok(rows) => println!("{rows} rows in {file} (seed {seed})"),
-            Err(why) => {
-                println!("difference: {why}");
-                exit(1)
-            }
+    asked
+}
+
+fn ended(why: String) -> ! {
+    println!("difference: {why}");
+    exit(1)
+}
+
+/// The documented differences, then every short pair of lists: how many answers were compared
+fn first_of_all(answers: u64, seed: u64, begun: Instant) -> u64 {
+    println!("differ: seed {seed}, {answers} answers");
+    let documented = rows::check().unwrap_or_else(|why| ended(why));
+    println!("documented differences: {documented} answers");
+    match cases::every_pair(answers >= WHOLE) {
+        Ok(pairs) => {
+            println!("every pair: {} answers in {} s", documented + pairs, begun.elapsed().as_secs());
+            documented + pairs
         }
+        Err((case, diff)) => differs(case, diff, &format!("differ --answers {answers}")),
+    }
+}
+
+fn main() {
+    std::panic::set_hook(Box::new(|_| {}));
+    if timesync::entry::image_size() != port::IMAGE as u64 {
+        println!("the image has another size");
+        exit(1);
+    }
+    let Asked { mut answers, mut seed, rows, most, file, plain } = asked();
+    if let Some(file) = file {
+        let rows = list::write(&file, seed, rows, most as usize).unwrap_or_else(|why| ended(why));
+        println!("{rows} rows in {file} (seed {seed})");
         return;
     }
-    let begun = Instant::now();
-    let mut compared = 0;
+    let (begun, mut compared) = (Instant::now(), 0);
     let steps = plain.get(1).copied().unwrap_or(STEPS);
     let (first, mut wanted) = (plain.get(3).copied().unwrap_or(0), u64::MAX);
     match plain[..] {
-        [] => {
-            println!("differ: seed {seed}, {answers} answers");
-            match rows::check() {
-                Ok(n) => compared += n,
-                Err(why) => {
-                    println!("difference: {why}");
-                    exit(1)
-                }
-            }
-            println!("documented differences: {compared} answers");
-            match cases::every_pair(answers >= WHOLE) {
-                Ok(n) => compared += n,
-                Err((case, diff)) => differs(case, diff, &format!("differ --answers {answers}")),
-            }
-            println!("every pair: {compared} answers in {} s", begun.elapsed().as_secs());
-        }
+        [] => compared = first_of_all(answers, seed, begun),
         [own, _, ..] => {
             (seed, answers) = (own, u64::MAX);
             wanted = plain.get(2).copied().unwrap_or(1);

@@ -2,15 +2,31 @@
 //!
 //! Every output is lent with a pattern in it. On a refusal the pattern must still be there, and past what
 //! is copied it must still be there too; where it is not, `spoiled` says which call did it.
-use crate::ffi;
+use timesync::entry;
 
-pub const IMAGE: usize = 1120;
-pub const RECORD_MAX: usize = 962;
-pub const MOMENTS_MAX: usize = 328;
-const GUARD: usize = 16;
-const FILL: u8 = 0xA5;
-const NUMBER: u64 = 0xA5A5_5A5A_0F0F_F0F0;
-const SIGNED: i32 = 0x5A5A_0F0F;
+use crate::lent::{moments, Lent, FILL, GUARD, NUMBER, SIGNED};
+
+pub const IMAGE: usize = timesync::IMAGE_SIZE;
+pub const RECORD_MAX: usize = timesync::RECORD_MAX;
+pub const MOMENTS_MAX: usize = 8 * timesync::MOMENTS_MAX;
+
+/// Where the numbers of an image stand that are looked at here, as the C header gives it
+pub mod place {
+    pub const GRANULARITY: usize = 8;
+    pub const SOURCE: usize = 9;
+    pub const SET: usize = 10;
+    pub const FABRIC: usize = 12;
+    pub const ENDPOINT: usize = 14;
+    pub const UTC: usize = 16;
+    pub const PERSISTED: usize = 24;
+    pub const ANCHOR: usize = 32;
+    pub const NODE: usize = 40;
+    pub const MISSING_AT: usize = 64;
+    pub const FAILURE_AT: usize = 72;
+    pub const MISSING: usize = 80;
+    pub const FAILURE: usize = 81;
+    pub const GENERATION: usize = 100;
+}
 
 /// The number of a refusal, or a value
 pub type Answer<T> = Result<T, u64>;
@@ -47,54 +63,25 @@ pub struct LookTold {
     pub sleep: (u64, u64),
 }
 
-#[derive(Debug, Clone, PartialEq, Eq)]
-pub struct Replayed {
-    pub moments: Vec<u64>,
-    pub record: Vec<u8>,
-    pub generation: u64,
-}
-
-/// A slice that is copied into: `room` bytes, and guard bytes past them
-struct Lent {
-    bytes: [u8; 1024],
-    room: usize,
-}
-
-impl Lent {
-    fn new(room: usize) -> Self {
-        Self { bytes: [FILL; 1024], room }
-    }
-    fn ptr(&mut self) -> *mut u8 {
-        self.bytes.as_mut_ptr()
-    }
-    /// Whether nothing was written from `used` on
-    fn clean(&self, used: usize) -> bool {
-        used <= self.room && self.bytes[used..(self.room + GUARD).min(1024)].iter().all(|b| *b == FILL)
-    }
-    fn front(&self, used: usize) -> Vec<u8> {
-        self.bytes[..used.min(self.room)].to_vec()
-    }
-}
-
-fn moments(bytes: &[u8]) -> Vec<u64> {
-    bytes.chunks(8).map(|c| c.iter().rev().fold(0, |n, b| n << 8 | u64::from(*b))).collect()
-}
-
 impl Port {
     /// A new image with a list store of these limits, or without one
     pub fn new(limits: Option<(usize, usize)>, build: u64, period: u64) -> Self {
         let (zones, windows) = limits.unwrap_or((0, 0));
         let lent = IMAGE + (zones + windows) % 3 * 4;
         let mut port = Self { bytes: vec![FILL; IMAGE + 2 * GUARD], lent, spoiled: Default::default() };
-        let r = unsafe { ffi::timesync_new(port.at(), lent, limits.is_some().into(), zones, windows, build, period) };
+        let r = entry::new(port.slice_mut(), limits.is_some().into(), zones, windows, build, period);
         assert_eq!(r, 0, "an image at {limits:?} is refused");
         port
     }
-    fn at(&mut self) -> *mut u8 {
-        self.bytes[GUARD..].as_mut_ptr()
+    fn slice_mut(&mut self) -> &mut [u8] {
+        &mut self.bytes[GUARD..GUARD + self.lent]
     }
-    fn to(&self) -> *const u8 {
-        self.bytes[GUARD..].as_ptr()
+    fn slice(&self) -> &[u8] {
+        &self.bytes[GUARD..GUARD + self.lent]
+    }
+    /// From now on so many bytes are lent
+    pub fn lend(&mut self, bytes: usize) {
+        self.lent = bytes;
     }
     pub fn image(&self) -> &[u8] {
         &self.bytes[GUARD..GUARD + IMAGE]
@@ -118,20 +105,18 @@ impl Port {
     // Calls with effects
 
     pub fn set_utc_time(&mut self, utc: u64, granularity: u8, source: Option<u8>, tick: u64) -> Returned {
-        Returned::new(unsafe {
-            ffi::timesync_set_utc_time(self.at(), self.lent, utc, granularity, source.is_some().into(), source.unwrap_or(0xEE), tick)
-        })
+        Returned::new(entry::set_utc_time(self.slice_mut(), utc, granularity, source.is_some().into(), source.unwrap_or(0xEE), tick))
     }
     pub fn set_source(&mut self, fab: u8, named: Option<(u64, u16)>) -> Returned {
         let (node, endpoint) = named.unwrap_or((NUMBER, 0xA5A5));
-        Returned::new(unsafe { ffi::timesync_set_trusted_time_source(self.at(), self.lent, fab, named.is_some().into(), node, endpoint) })
+        Returned::new(entry::set_trusted_time_source(self.slice_mut(), fab, named.is_some().into(), node, endpoint))
     }
     /// SetTimeZone or SetDSTOffset; the record to store where it is to be stored
     pub fn set_list(&mut self, zones: bool, request: &[u8], room: usize) -> (Returned, Option<Vec<u8>>) {
         let mut out = Lent::new(room);
         let mut used = NUMBER;
-        let call = if zones { ffi::timesync_set_time_zone } else { ffi::timesync_set_dst_offset };
-        let r = Returned::new(unsafe { call(self.at(), self.lent, request.as_ptr(), request.len(), out.ptr(), room, &mut used) });
+        let call = if zones { entry::set_time_zone } else { entry::set_dst_offset };
+        let r = Returned::new(call(self.slice_mut(), request, out.slice(), &mut used));
         if r.answer != 0 {
             self.note("SetTimeZone or SetDSTOffset, refused", used == NUMBER && out.clean(0));
             return (r, None);
@@ -141,35 +126,32 @@ impl Port {
     }
     pub fn load_lists(&mut self, stored: Option<&[u8]>) -> Returned {
         let bytes = stored.unwrap_or(&[FILL; 3]);
-        Returned::new(unsafe { ffi::timesync_load_lists(self.at(), self.lent, stored.is_some().into(), bytes.as_ptr(), bytes.len()) })
+        Returned::new(entry::load_lists(self.slice_mut(), stored.is_some().into(), bytes))
     }
     pub fn reset_lists(&mut self) -> Returned {
-        Returned::new(unsafe { ffi::timesync_reset_lists(self.at(), self.lent) })
+        Returned::new(entry::reset_lists(self.slice_mut()))
     }
     pub fn load_clock(&mut self, build: u64, moment: Option<u64>, source: Option<(u8, u64, u16)>) -> Returned {
         let (fab, node, endpoint) = source.unwrap_or((0, NUMBER, 0xA5A5));
-        Returned::new(unsafe {
-            ffi::timesync_load_clock(
-                self.at(),
-                self.lent,
-                build,
-                moment.is_some().into(),
-                moment.unwrap_or(NUMBER),
-                source.is_some().into(),
-                fab,
-                node,
-                endpoint,
-            )
-        })
+        Returned::new(entry::load_clock(
+            self.slice_mut(),
+            build,
+            moment.is_some().into(),
+            moment.unwrap_or(NUMBER),
+            source.is_some().into(),
+            fab,
+            node,
+            endpoint,
+        ))
     }
     pub fn reset_clock(&mut self, build: u64) -> Returned {
-        Returned::new(unsafe { ffi::timesync_reset_clock(self.at(), self.lent, build) })
+        Returned::new(entry::reset_clock(self.slice_mut(), build))
     }
     /// What was returned, and whether something changed
     pub fn rtc_set(&mut self, persist: bool, utc: u64, granularity: u8, source: u8, tick: u64) -> (Returned, Option<u64>) {
         let mut changed = NUMBER;
-        let call = if persist { ffi::timesync_rtc_set_utc_time_persist } else { ffi::timesync_rtc_set_utc_time };
-        let r = Returned::new(unsafe { call(self.at(), self.lent, utc, granularity, source, tick, &mut changed) });
+        let call = if persist { entry::rtc_set_utc_time_persist } else { entry::rtc_set_utc_time };
+        let r = Returned::new(call(self.slice_mut(), utc, granularity, source, tick, &mut changed));
         if r.answer != 0 {
             self.note("a setting of the clock, refused", changed == NUMBER);
             return (r, None);
@@ -181,9 +163,7 @@ impl Port {
         let mut offset = SIGNED;
         let mut out = [NUMBER; 5];
         let [named, name_len, active, sleep, sleep_us] = &mut out;
-        let r = Returned::new(unsafe {
-            ffi::timesync_look(self.at(), self.lent, tick, name.ptr(), room, &mut offset, named, name_len, active, sleep, sleep_us)
-        });
+        let r = Returned::new(entry::look(self.slice_mut(), tick, name.slice(), &mut offset, named, name_len, active, sleep, sleep_us));
         if r.answer != 0 {
             self.note("a look, refused", out == [NUMBER; 5] && offset == SIGNED && name.clean(0));
             return (r, None);
@@ -196,33 +176,30 @@ impl Port {
     /// What was returned, and the wait by its kind and time
     pub fn attempt(&mut self, answered: bool, utc: Option<u64>, granularity: Option<u8>, tick: u64) -> (Returned, (u64, u64)) {
         let (mut wait, mut wait_us) = (NUMBER, NUMBER);
-        let r = Returned::new(unsafe {
-            ffi::timesync_attempt(
-                self.at(),
-                self.lent,
-                answered.into(),
-                utc.is_some().into(),
-                utc.unwrap_or(NUMBER),
-                granularity.is_some().into(),
-                granularity.unwrap_or(3),
-                tick,
-                &mut wait,
-                &mut wait_us,
-            )
-        });
+        let r = Returned::new(entry::attempt(
+            self.slice_mut(),
+            answered.into(),
+            utc.is_some().into(),
+            utc.unwrap_or(NUMBER),
+            granularity.is_some().into(),
+            granularity.unwrap_or(3),
+            tick,
+            &mut wait,
+            &mut wait_us,
+        ));
         (r, (wait, wait_us))
     }
     pub fn source_changed(&mut self) -> (Returned, (u64, u64)) {
         let (mut wait, mut wait_us) = (NUMBER, NUMBER);
-        let r = Returned::new(unsafe { ffi::timesync_source_changed(self.at(), self.lent, &mut wait, &mut wait_us) });
+        let r = Returned::new(entry::source_changed(self.slice_mut(), &mut wait, &mut wait_us));
         (r, (wait, wait_us))
     }
 
     // Readings
 
-    fn numbers<const N: usize>(&self, call: &'static str, f: impl FnOnce(*const u8, &mut [u64; N]) -> u64) -> Answer<[u64; N]> {
+    fn numbers<const N: usize>(&self, call: &'static str, f: impl FnOnce(&[u8], &mut [u64; N]) -> u64) -> Answer<[u64; N]> {
         let mut out = [NUMBER; N];
-        match f(self.to(), &mut out) {
+        match f(self.slice(), &mut out) {
             0 => Ok(out),
             r => {
                 self.note(call, out == [NUMBER; N]);
@@ -230,23 +207,23 @@ impl Port {
             }
         }
     }
-    fn number(&self, call: &'static str, f: unsafe extern "C" fn(*const u8, usize, *mut u64) -> u64) -> Answer<u64> {
-        self.numbers(call, |image, [value]: &mut [u64; 1]| unsafe { f(image, self.lent, value) }).map(|[value]| value)
+    fn number(&self, call: &'static str, f: fn(&[u8], &mut u64) -> u64) -> Answer<u64> {
+        self.numbers(call, |image, [value]: &mut [u64; 1]| f(image, value)).map(|[value]| value)
     }
     pub fn utc_time(&self, tick: u64) -> Answer<(u64, bool)> {
-        let [reliable, utc] = self.numbers("utc_time", |s, [a, b]| unsafe { ffi::timesync_utc_time(s, self.lent, tick, a, b) })?;
+        let [reliable, utc] = self.numbers("utc_time", |s, [a, b]| entry::utc_time(s, tick, a, b))?;
         self.note("utc_time", reliable <= 1);
         Ok((utc, reliable == 1))
     }
     pub fn granularity(&self) -> Answer<u64> {
-        self.number("granularity", ffi::timesync_utc_time_granularity)
+        self.number("granularity", entry::utc_time_granularity)
     }
     pub fn source(&self) -> Answer<u64> {
-        self.number("source", ffi::timesync_utc_time_source)
+        self.number("source", entry::utc_time_source)
     }
     pub fn trusted(&self) -> Answer<Option<(u8, u64, u16)>> {
         let [there, fab, node, endpoint] =
-            self.numbers("trusted_time_source", |s, [a, b, c, d]| unsafe { ffi::timesync_trusted_time_source(s, self.lent, a, b, c, d) })?;
+            self.numbers("trusted_time_source", |s, [a, b, c, d]| entry::trusted_time_source(s, a, b, c, d))?;
         self.note("trusted_time_source", there == 1 || [there, fab, node, endpoint] == [0; 4]);
         Ok((there == 1).then_some((fab as u8, node, endpoint as u16)))
     }
@@ -255,39 +232,37 @@ impl Port {
         (there == 1).then_some(value)
     }
     pub fn local_time(&self, tick: u64) -> Answer<Option<u64>> {
-        let r = self.numbers("local_time", |s, [a, b]| unsafe { ffi::timesync_local_time(s, self.lent, tick, a, b) })?;
+        let r = self.numbers("local_time", |s, [a, b]| entry::local_time(s, tick, a, b))?;
         Ok(self.maybe("local_time", r))
     }
     pub fn zone_count(&self) -> Answer<u64> {
-        self.number("time_zone_count", ffi::timesync_time_zone_count)
+        self.number("time_zone_count", entry::time_zone_count)
     }
     pub fn window_count(&self) -> Answer<u64> {
-        self.number("dst_offset_count", ffi::timesync_dst_offset_count)
+        self.number("dst_offset_count", entry::dst_offset_count)
     }
     pub fn zone_limit(&self) -> Answer<u64> {
-        self.number("time_zone_list_max_size", ffi::timesync_time_zone_list_max_size)
+        self.number("time_zone_list_max_size", entry::time_zone_list_max_size)
     }
     pub fn window_limit(&self) -> Answer<u64> {
-        self.number("dst_offset_list_max_size", ffi::timesync_dst_offset_list_max_size)
+        self.number("dst_offset_list_max_size", entry::dst_offset_list_max_size)
     }
     pub fn database(&self) -> Answer<u64> {
-        self.number("time_zone_database", ffi::timesync_time_zone_database)
+        self.number("time_zone_database", entry::time_zone_database)
     }
     pub fn generation(&self) -> Answer<u64> {
-        self.number("generation", ffi::timesync_generation)
+        self.number("generation", entry::generation)
     }
     pub fn table_empty(&self) -> Answer<u64> {
-        self.number("dst_table_empty", ffi::timesync_dst_table_empty)
+        self.number("dst_table_empty", entry::dst_table_empty)
     }
     pub fn usable(&self, utc: u64) -> Answer<u64> {
-        self.numbers("dst_usable", |s, [a]: &mut [u64; 1]| unsafe { ffi::timesync_dst_usable(s, self.lent, utc, a) }).map(|[v]| v)
+        self.numbers("dst_usable", |s, [a]: &mut [u64; 1]| entry::dst_usable(s, utc, a)).map(|[v]| v)
     }
     pub fn zone(&self, index: usize, room: usize) -> Answer<(i32, u64, Option<Vec<u8>>)> {
         let mut name = Lent::new(room);
         let mut offset = SIGNED;
-        let r = self.numbers("time_zone", |s, [a, b, c]| unsafe {
-            ffi::timesync_time_zone(s, self.lent, index, name.ptr(), room, &mut offset, a, b, c)
-        });
+        let r = self.numbers("time_zone", |s, [a, b, c]| entry::time_zone(s, index, name.slice(), &mut offset, a, b, c));
         match r {
             Err(e) => {
                 self.note("time_zone, refused", offset == SIGNED && name.clean(0));
@@ -301,7 +276,7 @@ impl Port {
     }
     pub fn window(&self, index: usize) -> Answer<(i32, u64, Option<u64>)> {
         let mut offset = SIGNED;
-        let r = self.numbers("dst_offset", |s, [a, b, c]| unsafe { ffi::timesync_dst_offset(s, self.lent, index, &mut offset, a, b, c) });
+        let r = self.numbers("dst_offset", |s, [a, b, c]| entry::dst_offset(s, index, &mut offset, a, b, c));
         match r {
             Err(e) => {
                 self.note("dst_offset, refused", offset == SIGNED);
@@ -313,9 +288,7 @@ impl Port {
     pub fn active_zone(&self, utc: u64, room: usize) -> Answer<(i32, Option<Vec<u8>>)> {
         let mut name = Lent::new(room);
         let mut offset = SIGNED;
-        let r = self.numbers("active_time_zone", |s, [a, b]| unsafe {
-            ffi::timesync_active_time_zone(s, self.lent, utc, name.ptr(), room, &mut offset, a, b)
-        });
+        let r = self.numbers("active_time_zone", |s, [a, b]| entry::active_time_zone(s, utc, name.slice(), &mut offset, a, b));
         match r {
             Err(e) => {
                 self.note("active_time_zone, refused", offset == SIGNED && name.clean(0));
@@ -329,9 +302,7 @@ impl Port {
     }
     pub fn active_window(&self, utc: u64) -> Answer<Option<i32>> {
         let mut offset = SIGNED;
-        let r = self.numbers("active_dst_offset", |s, [a]: &mut [u64; 1]| unsafe {
-            ffi::timesync_active_dst_offset(s, self.lent, utc, a, &mut offset)
-        });
+        let r = self.numbers("active_dst_offset", |s, [a]: &mut [u64; 1]| entry::active_dst_offset(s, utc, a, &mut offset));
         match r {
             Err(e) => {
                 self.note("active_dst_offset, refused", offset == SIGNED);
@@ -344,13 +315,13 @@ impl Port {
         }
     }
     pub fn next_transition(&self, utc: u64) -> Answer<Option<u64>> {
-        let r = self.numbers("next_transition", |s, [a, b]| unsafe { ffi::timesync_next_transition(s, self.lent, utc, a, b) })?;
+        let r = self.numbers("next_transition", |s, [a, b]| entry::next_transition(s, utc, a, b))?;
         Ok(self.maybe("next_transition", r))
     }
     /// The moments walked, the start first
     pub fn walk(&self, start: u64, room: usize) -> Answer<Vec<u64>> {
         let mut out = Lent::new(room);
-        let r = self.numbers("walk", |s, [a]: &mut [u64; 1]| unsafe { ffi::timesync_walk(s, self.lent, start, out.ptr(), room, a) });
+        let r = self.numbers("walk", |s, [a]: &mut [u64; 1]| entry::walk(s, start, out.slice(), a));
         match r {
             Err(e) => {
                 self.note("walk, refused", out.clean(0));
@@ -364,7 +335,7 @@ impl Port {
     }
     pub fn record(&self, room: usize) -> Answer<Vec<u8>> {
         let mut out = Lent::new(room);
-        let r = self.numbers("record", |s, [a]: &mut [u64; 1]| unsafe { ffi::timesync_record(s, self.lent, out.ptr(), room, a) });
+        let r = self.numbers("record", |s, [a]: &mut [u64; 1]| entry::record(s, out.slice(), a));
         match r {
             Err(e) => {
                 self.note("record, refused", out.clean(0));
@@ -376,30 +347,4 @@ impl Port {
             }
         }
     }
-}
-
-/// A whole history on a new list store
-pub fn replay(limits: (usize, usize), history: &[u8], start: u64) -> Answer<Replayed> {
-    let (mut walked, mut out) = (Lent::new(MOMENTS_MAX), Lent::new(RECORD_MAX));
-    let (mut steps, mut used, mut generation) = (NUMBER, NUMBER, NUMBER);
-    let r = unsafe {
-        ffi::timesync_replay(
-            limits.0,
-            limits.1,
-            history.as_ptr(),
-            history.len(),
-            start,
-            walked.ptr(),
-            MOMENTS_MAX,
-            &mut steps,
-            out.ptr(),
-            RECORD_MAX,
-            &mut used,
-            &mut generation,
-        )
-    };
-    if r != 0 {
-        return Err(r);
-    }
-    Ok(Replayed { moments: moments(&walked.front(8 * (steps.min(40) as usize + 1))), record: out.front(used as usize), generation })
 }

@@ -5,10 +5,12 @@ use std::panic::{catch_unwind, AssertUnwindSafe};
 use oracle::driver::{self, Device, Outcome, WindowArg, ZoneArg};
 use oracle::trace::{self, Effect};
 
+use timesync::entry;
+
 use crate::bytes;
-use crate::ffi;
 use crate::input::HOUR;
-use crate::port::{self, Port, IMAGE, MOMENTS_MAX, RECORD_MAX};
+use crate::port::{self, place, Port, IMAGE, MOMENTS_MAX, RECORD_MAX};
+use crate::replay::{replay, ROOMS};
 
 type Done = Result<(), String>;
 
@@ -131,7 +133,9 @@ impl Rows {
         self.is("row 7, the Rust panics", r.is_err(), true)?;
         let (r, _) = port.attempt(false, None, None, 10);
         self.is("row 7, not due", (r.answer, r.effects), (0, Vec::new()))?;
-        self.is("row 7, the marks are kept", (port.word(72, 8), port.word(80, 8), port.word(88, 2)), (HOUR, HOUR, 0x101))
+        let ticks = (port.word(place::MISSING_AT, 8), port.word(place::FAILURE_AT, 8));
+        let marks = (port.word(place::MISSING, 1), port.word(place::FAILURE, 1));
+        self.is("row 7, the marks are kept", (ticks, marks), ((HOUR, HOUR), (1, 1)))
     }
 
     /// Row 8: limits that make no store
@@ -140,93 +144,92 @@ impl Rows {
             for w in 0..=17 {
                 let good = (1..=8).contains(&z) && (1..=16).contains(&w);
                 let mut bytes = [0x77; IMAGE];
-                let r = unsafe { ffi::timesync_new(bytes.as_mut_ptr(), IMAGE, 1, z, w, 1, 2) };
+                let r = entry::new(&mut bytes, 1, z, w, 1, 2);
                 self.is("limits", (r, bytes != [0x77; IMAGE]), if good { (0, true) } else { (8, false) })?;
-                self.is("limits, replayed", port::replay((z, w), &[], 0).is_ok(), good)?;
+                self.is("limits, replayed", replay((z, w), &[], 0, 0, ROOMS).is_ok(), good)?;
                 self.is("limits, made by the oracle", driver::make_store(z, w).is_some(), good)?;
             }
         }
         let mut bytes = [0x77; IMAGE];
-        let r = unsafe { ffi::timesync_new(bytes.as_mut_ptr(), IMAGE - 1, 0, 0, 0, 1, 2) };
+        let r = entry::new(&mut bytes[..IMAGE - 1], 0, 0, 0, 1, 2);
         self.is("a slice that is too short", (r, bytes == [0x77; IMAGE]), (8, true))?;
         let far = usize::MAX;
-        let r = unsafe { ffi::timesync_new(bytes.as_mut_ptr(), IMAGE, 1, far, far, 1, 2) };
+        let r = entry::new(&mut bytes, 1, far, far, 1, 2);
         self.is("limits far too large", (r, bytes == [0x77; IMAGE]), (8, true))
     }
 
-    /// Row 8: bytes that are no image are refused by every call
+    /// Row 8: bytes that are no image are refused by every call; and an index far past the end
     fn images(&mut self) -> Done {
         let good = Port::new(Some((2, 2)), 0, 0);
         for index in [1 << 8, 1 << 16, 1 << 32, usize::MAX] {
             self.is("an index far past the end", good.zone(index, 64), Err(2))?;
             self.is("an index far past the end", good.window(index), Err(2))?;
         }
-        let bad = [
-            (0, 2),
-            (1, 0),
-            (1, 9),
-            (2, 0),
-            (2, 17),
-            (3, 3),
-            (4, 3),
-            (5, 2),
-            (6, 2),
-            (7, 2),
-            (16, 5),
-            (17, 17),
-            (18, 2),
-            (19, 2),
-            (88, 2),
-            (89, 2),
-            (0, 255),
-            (89, 255),
-        ];
-        for (at, byte) in bad {
-            let mut p = good.clone();
-            p.poke(at, &[byte]);
-            let what = format!("byte {at} is {byte}");
-            self.left(&what, &mut p, 8, |p| p.set_utc_time(1, 2, None, 0))?;
-            self.left(&what, &mut p, 8, |p| p.set_source(1, None))?;
-            self.left(&what, &mut p, 4, |p| p.set_source(0, None))?;
-            self.left(&what, &mut p, 8, |p| p.set_list(true, &[0], RECORD_MAX).0)?;
-            self.left(&what, &mut p, 8, |p| p.set_list(false, &[0], RECORD_MAX).0)?;
-            self.left(&what, &mut p, 8, |p| p.load_lists(Some(&[0, 0])))?;
-            self.left(&what, &mut p, 8, |p| p.load_lists(None))?;
-            self.left(&what, &mut p, 8, |p| p.reset_lists())?;
-            self.left(&what, &mut p, 8, |p| p.load_clock(0, None, None))?;
-            self.left(&what, &mut p, 8, |p| p.reset_clock(0))?;
-            self.left(&what, &mut p, 8, |p| p.rtc_set(false, 1, 2, 2, 0).0)?;
-            self.left(&what, &mut p, 8, |p| p.rtc_set(true, 1, 2, 2, 0).0)?;
-            self.left(&what, &mut p, 8, |p| p.look(0, 64).0)?;
-            self.left(&what, &mut p, 8, |p| p.attempt(false, None, None, 0).0)?;
-            self.left(&what, &mut p, 8, |p| p.source_changed().0)?;
-            let refusals = [
-                p.utc_time(0).err(),
-                p.granularity().err(),
-                p.source().err(),
-                p.trusted().err(),
-                p.local_time(0).err(),
-                p.zone_count().err(),
-                p.window_count().err(),
-                p.zone_limit().err(),
-                p.window_limit().err(),
-                p.database().err(),
-                p.generation().err(),
-                p.table_empty().err(),
-                p.usable(0).err(),
-                p.zone(0, 64).err(),
-                p.window(0).err(),
-                p.active_zone(0, 64).err(),
-                p.active_window(0).err(),
-                p.next_transition(0).err(),
-                p.walk(0, MOMENTS_MAX).err(),
-                p.record(RECORD_MAX).err(),
-            ];
-            self.is(&what, refusals, [Some(8); 20])?;
-            self.answers += 19;
-            self.is(&what, p.spoiled.get(), None)?;
+        for at in 0..4 {
+            for byte in [0, b'T', b'M', b'S', b'1', 255] {
+                let mut p = good.clone();
+                if p.word(at, 1) != u64::from(byte) {
+                    p.poke(at, &[byte]);
+                    self.no_image(&format!("byte {at} is {byte}"), &mut p)?;
+                }
+            }
+        }
+        let mut zeroed = good.clone();
+        zeroed.poke(0, &[0; IMAGE]);
+        self.no_image("zeroed", &mut zeroed)?;
+        for bytes in [0, 4, IMAGE - 1] {
+            let mut short = good.clone();
+            short.lend(bytes);
+            self.no_image(&format!("{bytes} bytes"), &mut short)?;
         }
         Ok(())
+    }
+
+    fn no_image(&mut self, what: &str, p: &mut Port) -> Done {
+        self.left(what, p, 8, |p| p.set_utc_time(1, 2, None, 0))?;
+        self.left(what, p, 8, |p| p.set_source(1, None))?;
+        self.left(what, p, 4, |p| p.set_source(0, None))?;
+        self.left(what, p, 8, |p| p.set_list(true, &[0], RECORD_MAX).0)?;
+        self.left(what, p, 8, |p| p.set_list(false, &[0], RECORD_MAX).0)?;
+        self.left(what, p, 8, |p| p.load_lists(Some(&[0, 0])))?;
+        self.left(what, p, 8, |p| p.load_lists(None))?;
+        self.left(what, p, 8, |p| p.reset_lists())?;
+        self.left(what, p, 8, |p| p.load_clock(0, None, None))?;
+        self.left(what, p, 8, |p| p.reset_clock(0))?;
+        self.left(what, p, 8, |p| p.rtc_set(false, 1, 2, 2, 0).0)?;
+        self.left(what, p, 8, |p| p.rtc_set(true, 1, 2, 2, 0).0)?;
+        self.left(what, p, 8, |p| p.look(0, 64).0)?;
+        self.left(what, p, 8, |p| p.attempt(false, None, None, 0).0)?;
+        self.left(what, p, 8, |p| p.source_changed().0)?;
+        self.no_image_read(what, p)
+    }
+
+    fn no_image_read(&mut self, what: &str, p: &Port) -> Done {
+        let refusals = [
+            p.utc_time(0).err(),
+            p.granularity().err(),
+            p.source().err(),
+            p.trusted().err(),
+            p.local_time(0).err(),
+            p.zone_count().err(),
+            p.window_count().err(),
+            p.zone_limit().err(),
+            p.window_limit().err(),
+            p.database().err(),
+            p.generation().err(),
+            p.table_empty().err(),
+            p.usable(0).err(),
+            p.zone(0, 64).err(),
+            p.window(0).err(),
+            p.active_zone(0, 64).err(),
+            p.active_window(0).err(),
+            p.next_transition(0).err(),
+            p.walk(0, MOMENTS_MAX).err(),
+            p.record(RECORD_MAX).err(),
+        ];
+        self.is(what, refusals, [Some(8); 20])?;
+        self.answers += 19;
+        self.is(what, p.spoiled.get(), None)
     }
 
     /// Row 8: bytes that are no history
@@ -244,7 +247,7 @@ impl Rows {
             (&[1, 1, 0, 0, 0, 0], None),
             (&[1, 255, 255, 255, 255, 0], Some(1)),
         ] {
-            self.is(&format!("history {history:?}"), port::replay((1, 1), history, 0).err(), refusal)?;
+            self.is(&format!("history {history:?}"), replay((1, 1), history, 0, 0, ROOMS).err(), refusal)?;
         }
         Ok(())
     }

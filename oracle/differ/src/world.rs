@@ -7,7 +7,7 @@ use oracle::tlv::Value;
 use oracle::trace::{self, Effect};
 
 use crate::bytes;
-use crate::port::{self, LookTold, Port, Returned, RECORD_MAX};
+use crate::port::{place, LookTold, Port, Returned, RECORD_MAX};
 use crate::tally;
 
 /// What stands beside the image
@@ -105,8 +105,9 @@ macro_rules! same {
     }};
 }
 
-// both use the macro above
+// they use the macro above
 mod compare;
+mod history;
 mod loops;
 
 fn source_value(source: Option<(u8, u64, u16)>) -> Value {
@@ -175,10 +176,10 @@ impl World {
                 Effect::Store(TIME_ZONE_KEY, driver::record(&zones, &windows))
             }
             0x41 => Effect::Remove(TIME_ZONE_KEY),
-            0x42 => Effect::Store(LKG_UTC_KEY, Value::Uint(port.word(32, 8))),
+            0x42 => Effect::Store(LKG_UTC_KEY, Value::Uint(port.word(place::PERSISTED, 8))),
             0x43 => Effect::Remove(LKG_UTC_KEY),
             0x44 => {
-                let source = (port.word(20, 1) as u8, port.word(48, 8), port.word(22, 2) as u16);
+                let source = (port.word(place::FABRIC, 1) as u8, port.word(place::NODE, 8), port.word(place::ENDPOINT, 2) as u16);
                 Effect::Store(TRUSTED_TIME_SOURCE_KEY, source_value(Some(source)))
             }
             0x45 => Effect::Remove(TRUSTED_TIME_SOURCE_KEY),
@@ -225,44 +226,13 @@ impl World {
                 driver::set_tick(*tick);
             }
             Step::Utc(utc, g, source) => self.set_utc(*utc, *g, *source)?,
-            Step::Source(fab, named) => {
-                let r = self.device.cmd_set_source(*fab, *named);
-                let effects = trace::take();
-                let before = self.port.image().to_vec();
-                let p = self.port.set_source(*fab, *named);
-                self.called("SetTrustedTimeSource", &p, None, number(&r), effects)?;
-                if p.answer != 0 {
-                    self.unchanged("SetTrustedTimeSource", &before)?;
-                }
-            }
+            Step::Source(fab, named) => self.set_source(*fab, *named)?,
             Step::Zones(request) => self.set_list(true, request, item.short)?,
             Step::Windows(request) => self.set_list(false, request, item.short)?,
             Step::Load(stored) => self.load(stored.as_deref())?,
-            Step::Reset => {
-                let r = match self.kind {
-                    Kind::Lists(..) => self.store().reset(),
-                    _ => self.device.factory_reset(),
-                };
-                let effects = trace::take();
-                let p = self.port.reset_lists();
-                self.called("factory reset", &p, None, number(&r), effects)?;
-                self.note_history(4, None);
-            }
+            Step::Reset => self.reset()?,
             Step::Set(persist, utc, g, s) => self.rtc_set(*persist, *utc, *g, *s)?,
-            Step::LoadClock(build, moment, source) => {
-                let before = self.port.image().to_vec();
-                let p = self.port.load_clock(*build, *moment, *source);
-                if matches!(source, Some((0, ..))) {
-                    // a bad record: the Rust has reset the clock when it fails, the port leaves it
-                    self.turned_down("load of the clock", &p, 7, &before)?;
-                } else {
-                    driver::set_build_moment(*build);
-                    self.device.put_utc(*moment);
-                    self.device.put_source(*source);
-                    let r = self.device.rtc_load();
-                    self.called("load of the clock", &p, None, number(&r), trace::take())?;
-                }
-            }
+            Step::LoadClock(build, moment, source) => self.load_clock(*build, *moment, *source)?,
             Step::ResetClock(build) => {
                 driver::set_build_moment(*build);
                 let r = self.device.rtc_reset_persist();
@@ -273,7 +243,7 @@ impl World {
             Step::Generation(generation) => {
                 if self.kind != Kind::Bare {
                     self.store().set_generation(*generation);
-                    self.port.poke(12, &generation.to_le_bytes());
+                    self.port.poke(place::GENERATION, &generation.to_le_bytes());
                     self.history = None;
                 }
             }
@@ -281,6 +251,44 @@ impl World {
             Step::Client(outcome) => self.client(outcome)?,
         }
         self.compare(&item.probes, item.short)
+    }
+
+    fn set_source(&mut self, fab: u8, named: Option<(u64, u16)>) -> Done {
+        let r = self.device.cmd_set_source(fab, named);
+        let effects = trace::take();
+        let before = self.port.image().to_vec();
+        let p = self.port.set_source(fab, named);
+        self.called("SetTrustedTimeSource", &p, None, number(&r), effects)?;
+        if p.answer != 0 {
+            self.unchanged("SetTrustedTimeSource", &before)?;
+        }
+        Ok(())
+    }
+
+    fn reset(&mut self) -> Done {
+        let r = match self.kind {
+            Kind::Lists(..) => self.store().reset(),
+            _ => self.device.factory_reset(),
+        };
+        let effects = trace::take();
+        let p = self.port.reset_lists();
+        self.called("factory reset", &p, None, number(&r), effects)?;
+        self.note_history(4, None);
+        Ok(())
+    }
+
+    fn load_clock(&mut self, build: u64, moment: Option<u64>, source: Option<(u8, u64, u16)>) -> Done {
+        let before = self.port.image().to_vec();
+        let p = self.port.load_clock(build, moment, source);
+        if matches!(source, Some((0, ..))) {
+            // a bad record: the Rust has reset the clock when it fails, the port leaves it
+            return self.turned_down("load of the clock", &p, 7, &before);
+        }
+        driver::set_build_moment(build);
+        self.device.put_utc(moment);
+        self.device.put_source(source);
+        let r = self.device.rtc_load();
+        self.called("load of the clock", &p, None, number(&r), trace::take())
     }
 
     fn set_utc(&mut self, utc: u64, g: u8, source: Option<u8>) -> Done {
@@ -323,16 +331,6 @@ impl World {
         Ok(())
     }
 
-    fn note_history(&mut self, kind: u8, given: Option<&[u8]>) {
-        if let Some(history) = &mut self.history {
-            history.push(kind);
-            if let Some(given) = given {
-                history.extend((given.len() as u32).to_le_bytes());
-                history.extend(given);
-            }
-        }
-    }
-
     fn set_list(&mut self, zones: bool, request: &[u8], short: bool) -> Done {
         let what = if zones { "SetTimeZone" } else { "SetDSTOffset" };
         let before = self.port.image().to_vec();
@@ -363,14 +361,7 @@ impl World {
         if short && answer == 0 {
             if let Some(value) = effects.iter().find_map(stored_value) {
                 let need = bytes::of_value(value).map_or(0, |b| b.len());
-                let mut copy = self.port.clone();
-                let (p, _) = copy.set_list(zones, request, need - 1);
-                same!(self, format_args!("{what} with no room"), (p.answer, &p.effects[..]), (9, &[][..]));
-                same!(self, format_args!("{what} with no room, image unchanged"), copy.image() == &before[..], true);
-                let mut copy = self.port.clone();
-                let (p, _) = copy.set_list(zones, request, need);
-                same!(self, format_args!("{what} with just room"), p.answer, 0);
-                self.spoils(&copy)?;
+                self.set_list_shortly(what, zones, request, need)?;
             }
         }
         let (p, record) = self.port.set_list(zones, request, RECORD_MAX);
@@ -379,6 +370,18 @@ impl World {
             self.unchanged(what, &before)?;
         }
         Ok(())
+    }
+
+    /// On copies: with a byte too few for the record, and with as many as it needs
+    fn set_list_shortly(&mut self, what: &'static str, zones: bool, request: &[u8], need: usize) -> Done {
+        let mut copy = self.port.clone();
+        let (p, _) = copy.set_list(zones, request, need - 1);
+        same!(self, format_args!("{what} with no room"), (p.answer, &p.effects[..]), (9, &[][..]));
+        same!(self, format_args!("{what} with no room, image unchanged"), copy.image() == self.port.image(), true);
+        let mut copy = self.port.clone();
+        let (p, _) = copy.set_list(zones, request, need);
+        same!(self, format_args!("{what} with just room"), p.answer, 0);
+        self.spoils(&copy)
     }
 
     fn load(&mut self, stored: Option<&[u8]>) -> Done {
@@ -410,35 +413,6 @@ impl World {
             self.unchanged("load with no record", &before)?;
         }
         Ok(())
-    }
-
-    /// The list calls once more as one history on a new store
-    pub fn finish(&mut self, start: u64) -> Done {
-        let (Some(limits), Some(history)) = (self.kind.limits(), self.history.clone()) else {
-            return Ok(());
-        };
-        let replayed = port::replay(limits, &history, start).map_err(|e| Diff(format!("replay is refused with {e}")))?;
-        let (record, generation, moments) = self.oracle_lists(start)?;
-        same!(self, "replay, moments", replayed.moments, moments);
-        same!(self, "replay, record", replayed.record, record);
-        same!(self, "replay, generation", replayed.generation, generation);
-        Ok(())
-    }
-
-    /// From the oracle: the record's bytes, the generation, and the moments walked, the start first
-    pub fn oracle_lists(&self, start: u64) -> Result<(Vec<u8>, u64, Vec<u64>), Diff> {
-        trace::take();
-        let stored = self.store().store();
-        let value = trace::take();
-        let record = value.iter().find_map(stored_value).and_then(bytes::of_value);
-        match (stored, record) {
-            (Ok(()), Some(record)) => Ok((record, self.store().generation().into(), [vec![start], self.store().walk(start)].concat())),
-            _ => Err(Diff("the oracle stores another shape".into())),
-        }
-    }
-
-    pub fn history(&self) -> Option<&[u8]> {
-        self.history.as_deref()
     }
 
     /// Every start and end of the oracle's lists, and the current moment

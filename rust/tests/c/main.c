@@ -6,11 +6,8 @@
 #include <stdio.h>
 #include <string.h>
 
+#include "lists.h"
 #include "timesync.h"
-
-#define DAY UINT64_C(86400000000)
-#define HOUR UINT64_C(3600000000)
-#define MINUTE UINT64_C(60000000)
 
 static int failures = 0;
 
@@ -24,38 +21,17 @@ static void expect(int holds, const char *what, int line)
 
 #define EXPECT(condition) expect((condition), #condition, __LINE__)
 
-/* ---- requests ---- */
+/* ---- what the calls are lent ---- */
 
-static size_t put(uint8_t *to, size_t at, uint64_t value, size_t bytes)
-{
-    for (size_t i = 0; i < bytes; i++)
-        to[at + i] = (uint8_t)(value >> (8 * i));
-    return at + bytes;
-}
+static uint8_t image[TIMESYNC_IMAGE_SIZE];
+#define IMAGE image, sizeof image
 
-static size_t put_zone(uint8_t *to, size_t at, int32_t offset, uint64_t start, const char *name)
-{
-    at = put(to, at, (uint32_t)offset, 4);
-    at = put(to, at, start, 8);
-    to[at++] = name != NULL;
-    if (name != NULL) {
-        size_t length = strlen(name);
-        to[at++] = (uint8_t)length;
-        memcpy(to + at, name, length);
-        at += length;
-    }
-    return at;
-}
+static uint8_t out[TIMESYNC_RECORD_MAX], stored[TIMESYNC_RECORD_MAX], moments[TIMESYNC_MOMENTS_MAX], request[512];
+static uint8_t name[TIMESYNC_NAME_MAX + 1], nothing[1];
+static uint64_t used, there, value, named, length, stored_length;
+static int32_t offset;
 
-static size_t put_window(uint8_t *to, size_t at, int32_t offset, uint64_t start, uint64_t end)
-{
-    at = put(to, at, (uint32_t)offset, 4);
-    at = put(to, at, start, 8);
-    to[at++] = end != 0;
-    return end != 0 ? put(to, at, end, 8) : at;
-}
-
-static uint64_t moment_at(const uint8_t *moments, size_t index)
+static uint64_t moment_at(size_t index)
 {
     uint64_t moment = 0;
     for (size_t i = 8; i-- > 0;)
@@ -72,153 +48,180 @@ static int asks_for(uint64_t returned, size_t count, const unsigned *codes)
     return TIMESYNC_EFFECT(returned, count) == 0;
 }
 
-int main(void)
+/* ---- the parts of a controller's life ---- */
+
+static void make_image(void)
 {
-    static uint8_t image[TIMESYNC_IMAGE_SIZE];
-    static uint8_t out[TIMESYNC_RECORD_MAX], stored[TIMESYNC_RECORD_MAX], moments[TIMESYNC_MOMENTS_MAX], request[512];
-    uint8_t name[TIMESYNC_NAME_MAX + 1] = {0};
-    uint8_t nothing[1] = {0};
-    uint64_t used = 0, there = 0, value = 0, named = 0, length = 0, steps = 0, returned;
-    int32_t offset = 0;
-
-    /* a new image */
     EXPECT(timesync_image_size() == TIMESYNC_IMAGE_SIZE);
+    /* zeroed bytes are no image, and a slice that is too short cannot become one */
+    EXPECT(timesync_generation(IMAGE, &value) == TIMESYNC_BAD_LIMITS);
     EXPECT(timesync_new(image, sizeof image - 1, 1, 2, 2, 5 * DAY, 10 * MINUTE) == TIMESYNC_BAD_LIMITS);
-    EXPECT(timesync_new(image, sizeof image, 1, 2, 3, 5 * DAY, 10 * MINUTE) == TIMESYNC_OK);
+    EXPECT(timesync_new(IMAGE, 1, 2, 3, 5 * DAY, 10 * MINUTE) == TIMESYNC_OK);
+    EXPECT(timesync_generation(IMAGE, &value) == TIMESYNC_OK && value == 0);
+    /* nor is one that has lost its magic */
+    image[3] ^= 1;
+    EXPECT(timesync_generation(IMAGE, &value) == TIMESYNC_BAD_LIMITS);
+    image[3] ^= 1;
+}
 
-    /* the zones */
+static void send_lists(void)
+{
     request[0] = 2;
     size_t end = put_zone(request, 1, 3600, 0, "Europe/Berlin");
     end = put_zone(request, end, 7200, 30 * DAY, "Europe/Sofia");
-    returned = timesync_set_time_zone(image, sizeof image, request, end, out, sizeof out, &used);
+    uint64_t returned = timesync_set_time_zone(IMAGE, request, end, out, sizeof out, &used);
     const unsigned zones_taken[] = {TIMESYNC_WAKE_TIMER, TIMESYNC_STORE_RECORD, TIMESYNC_REPORT_TIME_ZONE, TIMESYNC_REPORT_DST_OFFSET};
     EXPECT(TIMESYNC_ANSWER(returned) == TIMESYNC_OK);
     EXPECT(asks_for(returned, 4, zones_taken));
     EXPECT(used == end + 1);
     EXPECT(memcmp(out, request, end) == 0 && out[end] == 0);
 
-    /* the windows */
     request[0] = 2;
     end = put_window(request, 1, 3600, 10 * DAY, 20 * DAY);
     end = put_window(request, end, 1800, 40 * DAY, 0);
-    returned = timesync_set_dst_offset(image, sizeof image, request, end, out, sizeof out, &used);
+    returned = timesync_set_dst_offset(IMAGE, request, end, out, sizeof out, &used);
     const unsigned windows_taken[] = {TIMESYNC_WAKE_TIMER, TIMESYNC_STORE_RECORD, TIMESYNC_REPORT_DST_OFFSET};
     EXPECT(TIMESYNC_ANSWER(returned) == TIMESYNC_OK);
     EXPECT(asks_for(returned, 3, windows_taken));
     memcpy(stored, out, sizeof stored);
-    uint64_t stored_length = used;
+    stored_length = used;
+}
 
-    /* the clock */
-    EXPECT(timesync_local_time(image, sizeof image, 0, &there, &value) == 0 && there == 0 && value == 0);
-    returned = timesync_set_utc_time(image, sizeof image, 12 * DAY, TIMESYNC_GRANULARITY_MICROSECONDS, 0, 0, 1000);
+static void set_the_clock(void)
+{
+    EXPECT(timesync_local_time(IMAGE, 0, &there, &value) == 0 && there == 0 && value == 0);
+    uint64_t returned = timesync_set_utc_time(IMAGE, 12 * DAY, TIMESYNC_GRANULARITY_MICROSECONDS, 0, 0, 1000);
     const unsigned utc_set[] = {TIMESYNC_REPORT_UTC_TIME, TIMESYNC_REPORT_GRANULARITY, TIMESYNC_REPORT_TIME_SOURCE, TIMESYNC_WAKE_TIMER};
     EXPECT(TIMESYNC_ANSWER(returned) == TIMESYNC_OK && asks_for(returned, 4, utc_set));
-    EXPECT(timesync_utc_time(image, sizeof image, 1500, &there, &value) == 0 && there == 1 && value == 12 * DAY + 500);
-    EXPECT(timesync_utc_time_granularity(image, sizeof image, &value) == 0 && value == TIMESYNC_GRANULARITY_MILLISECONDS);
-    EXPECT(timesync_utc_time_source(image, sizeof image, &value) == 0 && value == TIMESYNC_SOURCE_ADMIN);
+    EXPECT(timesync_utc_time(IMAGE, 1500, &there, &value) == 0 && there == 1 && value == 12 * DAY + 500);
+    EXPECT(timesync_utc_time_granularity(IMAGE, &value) == 0 && value == TIMESYNC_GRANULARITY_MILLISECONDS);
+    EXPECT(timesync_utc_time_source(IMAGE, &value) == 0 && value == TIMESYNC_SOURCE_ADMIN);
+}
 
-    /* the panel */
-    EXPECT(timesync_active_time_zone(image, sizeof image, 12 * DAY, name, TIMESYNC_NAME_MAX, &offset, &named, &length) == 0);
+static void show_the_panel(void)
+{
+    uint64_t steps = 0;
+    EXPECT(timesync_active_time_zone(IMAGE, 12 * DAY, name, TIMESYNC_NAME_MAX, &offset, &named, &length) == 0);
     EXPECT(offset == 3600 && named == 1 && length == 13 && memcmp(name, "Europe/Berlin", 13) == 0 && name[13] == 0);
     printf("zone %.*s\n", (int)length, (const char *)name);
-    EXPECT(timesync_local_time(image, sizeof image, 1000, &there, &value) == 0);
+    EXPECT(timesync_local_time(IMAGE, 1000, &there, &value) == 0);
     EXPECT(there == 1 && value == 12 * DAY + 2 * HOUR);
     printf("local time %" PRIu64 "\n", value);
-    EXPECT(timesync_walk(image, sizeof image, 12 * DAY, moments, sizeof moments, &steps) == 0);
+    EXPECT(timesync_walk(IMAGE, 12 * DAY, moments, sizeof moments, &steps) == 0);
     const uint64_t walked[] = {12 * DAY, 20 * DAY, 30 * DAY, 40 * DAY};
     EXPECT(steps == 3);
     for (size_t i = 0; i <= steps && i < 4; i++) {
-        EXPECT(moment_at(moments, i) == walked[i]);
-        printf("moment %" PRIu64 "\n", moment_at(moments, i));
+        EXPECT(moment_at(i) == walked[i]);
+        printf("moment %" PRIu64 "\n", moment_at(i));
     }
+}
 
-    /* the other readings */
-    uint64_t closed = 0, valid_until = 0;
-    EXPECT(timesync_time_zone(image, sizeof image, 1, name, TIMESYNC_NAME_MAX, &offset, &value, &named, &length) == 0);
+static void read_the_lists(void)
+{
+    uint64_t closed = 0, until = 0;
+    EXPECT(timesync_time_zone(IMAGE, 1, name, TIMESYNC_NAME_MAX, &offset, &value, &named, &length) == 0);
     EXPECT(offset == 7200 && value == 30 * DAY && named == 1 && length == 12);
-    EXPECT(timesync_time_zone(image, sizeof image, 1, name, 11, &offset, &value, &named, &length) == TIMESYNC_NO_SPACE);
-    EXPECT(timesync_time_zone(image, sizeof image, 2, nothing, 0, &offset, &value, &named, &length) == TIMESYNC_CONSTRAINT_ERROR);
-    EXPECT(timesync_dst_offset(image, sizeof image, 1, &offset, &value, &closed, &valid_until) == 0);
-    EXPECT(offset == 1800 && value == 40 * DAY && closed == 0 && valid_until == 0);
-    EXPECT(timesync_dst_offset(image, sizeof image, 0, &offset, &value, &closed, &valid_until) == 0);
-    EXPECT(offset == 3600 && value == 10 * DAY && closed == 1 && valid_until == 20 * DAY);
-    EXPECT(timesync_active_dst_offset(image, sizeof image, 40 * DAY, &there, &offset) == 0 && there == 1 && offset == 1800);
-    EXPECT(timesync_next_transition(image, sizeof image, 40 * DAY, &there, &value) == 0 && there == 0 && value == 0);
-    EXPECT(timesync_time_zone_count(image, sizeof image, &value) == 0 && value == 2);
-    EXPECT(timesync_dst_offset_count(image, sizeof image, &value) == 0 && value == 2);
-    EXPECT(timesync_time_zone_list_max_size(image, sizeof image, &value) == 0 && value == 2);
-    EXPECT(timesync_dst_offset_list_max_size(image, sizeof image, &value) == 0 && value == 3);
-    EXPECT(timesync_time_zone_database(image, sizeof image, &value) == 0 && value == TIMESYNC_DATABASE_NONE);
-    EXPECT(timesync_generation(image, sizeof image, &value) == 0 && value == 2);
-    EXPECT(timesync_dst_usable(image, sizeof image, 50 * DAY, &value) == 0 && value == 1);
-    EXPECT(timesync_dst_table_empty(image, sizeof image, &value) == 0 && value == 0);
-    EXPECT(timesync_record(image, sizeof image, out, sizeof out, &used) == 0 && used == stored_length);
+    EXPECT(timesync_time_zone(IMAGE, 1, name, 11, &offset, &value, &named, &length) == TIMESYNC_NO_SPACE);
+    EXPECT(timesync_time_zone(IMAGE, 2, nothing, 0, &offset, &value, &named, &length) == TIMESYNC_CONSTRAINT_ERROR);
+    EXPECT(timesync_dst_offset(IMAGE, 1, &offset, &value, &closed, &until) == 0);
+    EXPECT(offset == 1800 && value == 40 * DAY && closed == 0 && until == 0);
+    EXPECT(timesync_dst_offset(IMAGE, 0, &offset, &value, &closed, &until) == 0);
+    EXPECT(offset == 3600 && value == 10 * DAY && closed == 1 && until == 20 * DAY);
+    EXPECT(timesync_active_dst_offset(IMAGE, 40 * DAY, &there, &offset) == 0 && there == 1 && offset == 1800);
+    EXPECT(timesync_next_transition(IMAGE, 40 * DAY, &there, &value) == 0 && there == 0 && value == 0);
+    EXPECT(timesync_time_zone_count(IMAGE, &value) == 0 && value == 2);
+    EXPECT(timesync_dst_offset_count(IMAGE, &value) == 0 && value == 2);
+    EXPECT(timesync_time_zone_list_max_size(IMAGE, &value) == 0 && value == 2);
+    EXPECT(timesync_dst_offset_list_max_size(IMAGE, &value) == 0 && value == 3);
+    EXPECT(timesync_time_zone_database(IMAGE, &value) == 0 && value == TIMESYNC_DATABASE_NONE);
+    EXPECT(timesync_generation(IMAGE, &value) == 0 && value == 2);
+    EXPECT(timesync_dst_usable(IMAGE, 50 * DAY, &value) == 0 && value == 1);
+    EXPECT(timesync_dst_table_empty(IMAGE, &value) == 0 && value == 0);
+    EXPECT(timesync_record(IMAGE, out, sizeof out, &used) == 0 && used == stored_length);
     EXPECT(memcmp(out, stored, stored_length) == 0);
+}
 
-    /* the timer: an active window at the first look, and 8 days until it ends */
+/* an active window at the first look, and 8 days until it ends */
+static void look(void)
+{
     uint64_t active = 0, sleep = 0, sleep_us = 0;
-    returned = timesync_look(image, sizeof image, 1000, name, sizeof name, &offset, &named, &length, &active, &sleep, &sleep_us);
-    EXPECT(TIMESYNC_ANSWER(returned) == 0 && TIMESYNC_EFFECT(returned, 0) == TIMESYNC_EMIT_DST_STATUS && TIMESYNC_EFFECT(returned, 1) == 0);
+    const unsigned due[] = {TIMESYNC_EMIT_DST_STATUS};
+    uint64_t returned = timesync_look(IMAGE, 1000, name, sizeof name, &offset, &named, &length, &active, &sleep, &sleep_us);
+    EXPECT(TIMESYNC_ANSWER(returned) == 0 && asks_for(returned, 1, due));
     EXPECT(active == 1 && named == 0 && length == 0 && offset == 0);
     EXPECT(sleep == TIMESYNC_SLEEP_AT_MOST && sleep_us == 8 * DAY + 100000);
+}
 
-    /* a request that breaks a rule empties the windows and wakes the timer; the record brings them back */
+/* a request that breaks a rule empties the windows and wakes the timer; the record brings them back */
+static void refused_windows(void)
+{
     request[0] = 1;
-    end = put_window(request, 1, 0, 5, 5);
+    size_t end = put_window(request, 1, 0, 5, 5);
     used = 77;
-    returned = timesync_set_dst_offset(image, sizeof image, request, end, out, sizeof out, &used);
+    uint64_t returned = timesync_set_dst_offset(IMAGE, request, end, out, sizeof out, &used);
     EXPECT(TIMESYNC_ANSWER(returned) == TIMESYNC_CONSTRAINT_ERROR && TIMESYNC_EFFECT(returned, 0) == TIMESYNC_WAKE_TIMER && used == 77);
-    EXPECT(timesync_dst_table_empty(image, sizeof image, &value) == 0 && value == 1);
-    EXPECT(timesync_load_lists(image, sizeof image, 1, stored, stored_length) == 0);
-    EXPECT(timesync_dst_table_empty(image, sizeof image, &value) == 0 && value == 0);
-    EXPECT(timesync_load_lists(image, sizeof image, 1, nothing, 0) == TIMESYNC_BAD_RECORD);
+    EXPECT(timesync_dst_table_empty(IMAGE, &value) == 0 && value == 1);
+    EXPECT(timesync_load_lists(IMAGE, 1, stored, stored_length) == 0);
+    EXPECT(timesync_dst_table_empty(IMAGE, &value) == 0 && value == 0);
+    EXPECT(timesync_load_lists(IMAGE, 1, nothing, 0) == TIMESYNC_BAD_RECORD);
+}
 
-    /* the client */
+static void ask_another_node(void)
+{
     uint64_t wait = 9, wait_us = 9, fabric = 0, node = 0, endpoint = 0;
-    EXPECT(TIMESYNC_ANSWER(timesync_set_trusted_time_source(image, sizeof image, 0, 1, 7, 8)) == TIMESYNC_INVALID_COMMAND);
-    returned = timesync_set_trusted_time_source(image, sizeof image, 3, 1, UINT64_C(0x0102030405060708), 0x1234);
+    EXPECT(TIMESYNC_ANSWER(timesync_set_trusted_time_source(IMAGE, 0, 1, 7, 8)) == TIMESYNC_INVALID_COMMAND);
+    uint64_t returned = timesync_set_trusted_time_source(IMAGE, 3, 1, UINT64_C(0x0102030405060708), 0x1234);
     const unsigned source_set[] = {TIMESYNC_REPORT_TRUSTED_TIME_SOURCE, TIMESYNC_STORE_SOURCE, TIMESYNC_WAKE_CLIENT};
     EXPECT(TIMESYNC_ANSWER(returned) == 0 && asks_for(returned, 3, source_set));
-    EXPECT(timesync_trusted_time_source(image, sizeof image, &there, &fabric, &node, &endpoint) == 0);
+    EXPECT(timesync_trusted_time_source(IMAGE, &there, &fabric, &node, &endpoint) == 0);
     EXPECT(there == 1 && fabric == 3 && node == UINT64_C(0x0102030405060708) && endpoint == 0x1234);
-    EXPECT(timesync_source_changed(image, sizeof image, &wait, &wait_us) == 0 && wait == TIMESYNC_WAIT_ATTEMPT_NOW && wait_us == 0);
-    returned = timesync_attempt(image, sizeof image, 0, 0, 0, 0, 0, 2000, &wait, &wait_us);
+    EXPECT(timesync_source_changed(IMAGE, &wait, &wait_us) == 0 && wait == TIMESYNC_WAIT_ATTEMPT_NOW && wait_us == 0);
+    returned = timesync_attempt(IMAGE, 0, 0, 0, 0, 0, 2000, &wait, &wait_us);
     EXPECT(TIMESYNC_EFFECT(returned, 0) == TIMESYNC_EMIT_MISSING_TRUSTED_TIME_SOURCE);
     EXPECT(TIMESYNC_EFFECT(returned, 1) == TIMESYNC_EMIT_TIME_FAILURE);
     EXPECT(wait == TIMESYNC_WAIT_FOR && wait_us == MINUTE);
-    returned = timesync_attempt(image, sizeof image, 1, 1, 13 * DAY, 1, TIMESYNC_GRANULARITY_MICROSECONDS, 3000, &wait, &wait_us);
+    returned = timesync_attempt(IMAGE, 1, 1, 13 * DAY, 1, TIMESYNC_GRANULARITY_MICROSECONDS, 3000, &wait, &wait_us);
     EXPECT(TIMESYNC_EFFECT(returned, 3) == TIMESYNC_STORE_MOMENT && wait == TIMESYNC_WAIT_FOR && wait_us == 10 * MINUTE);
+}
 
-    /* the clock's own settings, load and reset */
+/* the clock's own settings, load and reset */
+static void set_load_and_reset(void)
+{
     uint64_t changed = 0;
-    EXPECT(TIMESYNC_ANSWER(timesync_rtc_set_utc_time(image, sizeof image, DAY, 4, TIMESYNC_SOURCE_GNSS, 4000, &changed)) == 0);
+    EXPECT(TIMESYNC_ANSWER(timesync_rtc_set_utc_time(IMAGE, DAY, 4, TIMESYNC_SOURCE_GNSS, 4000, &changed)) == 0);
     EXPECT(changed == 1);
-    returned = timesync_rtc_set_utc_time_persist(image, sizeof image, DAY, 5, TIMESYNC_SOURCE_GNSS, 1, &changed);
+    uint64_t returned = timesync_rtc_set_utc_time_persist(IMAGE, DAY, 5, TIMESYNC_SOURCE_GNSS, 1, &changed);
     EXPECT(returned == TIMESYNC_UNREADABLE && changed == 1);
-    returned = timesync_rtc_set_utc_time_persist(image, sizeof image, DAY, 4, TIMESYNC_SOURCE_GNSS, 1, &changed);
+    returned = timesync_rtc_set_utc_time_persist(IMAGE, DAY, 4, TIMESYNC_SOURCE_GNSS, 1, &changed);
     EXPECT(returned == (uint64_t)TIMESYNC_STORE_MOMENT << 8 && changed == 0);
-    EXPECT(timesync_load_clock(image, sizeof image, 6 * DAY, 1, DAY, 1, 9, 8, 7) == 0);
-    EXPECT(timesync_utc_time(image, sizeof image, 9, &there, &value) == 0 && there == 0 && value == 6 * DAY);
+    EXPECT(timesync_load_clock(IMAGE, 6 * DAY, 1, DAY, 1, 9, 8, 7) == 0);
+    EXPECT(timesync_utc_time(IMAGE, 9, &there, &value) == 0 && there == 0 && value == 6 * DAY);
     const unsigned clock_reset[] = {TIMESYNC_REMOVE_MOMENT, TIMESYNC_REMOVE_SOURCE};
-    EXPECT(asks_for(timesync_reset_clock(image, sizeof image, 7 * DAY), 2, clock_reset));
+    EXPECT(asks_for(timesync_reset_clock(IMAGE, 7 * DAY), 2, clock_reset));
     const unsigned lists_reset[] = {TIMESYNC_REMOVE_RECORD, TIMESYNC_WAKE_TIMER};
-    EXPECT(asks_for(timesync_reset_lists(image, sizeof image), 2, lists_reset));
+    EXPECT(asks_for(timesync_reset_lists(IMAGE), 2, lists_reset));
+}
 
-    /* a history: the record is loaded, and walked from the start */
-    uint64_t generation = 9;
-    request[0] = 2;
-    end = put(request, 1, stored_length, 4);
-    memcpy(request + end, stored, stored_length);
-    end += stored_length;
-    EXPECT(timesync_replay(2, 3, request, end, 0, moments, sizeof moments, &steps, out, sizeof out, &used, &generation) == 0);
-    EXPECT(steps == 4 && used == stored_length && generation == 0 && memcmp(out, stored, stored_length) == 0);
-    EXPECT(moment_at(moments, 0) == 0 && moment_at(moments, 4) == 40 * DAY);
+static void without_a_list_store(void)
+{
+    EXPECT(timesync_new(IMAGE, 0, 99, 99, 0, 0) == 0);
+    uint64_t returned = timesync_set_time_zone(IMAGE, nothing, 1, out, sizeof out, &used);
+    EXPECT(TIMESYNC_ANSWER(returned) == TIMESYNC_COMMAND_NOT_FOUND);
+    EXPECT(timesync_generation(IMAGE, &value) == TIMESYNC_ATTRIBUTE_NOT_FOUND);
+}
 
-    /* without a list store */
-    EXPECT(timesync_new(image, sizeof image, 0, 99, 99, 0, 0) == 0);
-    EXPECT(TIMESYNC_ANSWER(timesync_set_time_zone(image, sizeof image, nothing, 1, out, sizeof out, &used)) == TIMESYNC_COMMAND_NOT_FOUND);
-    EXPECT(timesync_generation(image, sizeof image, &value) == TIMESYNC_ATTRIBUTE_NOT_FOUND);
-
+int main(void)
+{
+    make_image();
+    send_lists();
+    set_the_clock();
+    show_the_panel();
+    read_the_lists();
+    look();
+    refused_windows();
+    ask_another_node();
+    set_load_and_reset();
+    without_a_list_store();
     if (failures == 0)
         printf("as expected\n");
     return failures == 0 ? 0 : 1;

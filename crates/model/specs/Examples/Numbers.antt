@@ -26,7 +26,7 @@ refusals = refl
 
 -- what SetTimeZone, a refused SetDSTOffset, SetUTCTime and a refusal return
 returns : Gives (λ (r : ℕ × List Effect). returned (r .0) (r .1))
-    ((0, wakeTimer ∷ storeRecord [] ∷ report TimeZone ∷ report DSTOffset ∷ []) gives 0x1615403000
+    ((0, wakeTimer ∷ storeRecord ∷ report TimeZone ∷ report DSTOffset ∷ []) gives 0x1615403000
     ∷ (2, wakeTimer ∷ []) gives 0x3002
     ∷ (0, report UTCTime ∷ report Granularity ∷ report Attribute.TimeSource ∷ wakeTimer ∷ []) gives 0x3012111000
     ∷ (9, []) gives 9

@@ -50,9 +50,14 @@ unfolding setDSTOffset readWindows readAll readEntry takeBytes
 unreadable-windows = refl
 
 -- an empty list is accepted, with all effects
-no-windows : setDSTOffset full (0 ∷ []) ≡ record { state = store empty 0; answer = done; effects = wakeTimer ∷ storeRecord (0 ∷ 0 ∷ []) ∷ report DSTOffset ∷ [] }
-unfolding setDSTOffset recordOf after readWindows readAll testFrom testWindows recordBytes zonesBytes windowsBytes allBytes
+no-windows : setDSTOffset full (0 ∷ []) ≡ record { state = store empty 0; answer = done; effects = wakeTimer ∷ storeRecord ∷ report DSTOffset ∷ [] }
+unfolding setDSTOffset after readWindows readAll testFrom testWindows
 no-windows = refl
+
+-- and what is stored is the record of what it leaves
+no-windows-stored : recordOf (setDSTOffset full (0 ∷ []) .state) ≡ 0 ∷ 0 ∷ []
+unfolding setDSTOffset recordOf after readWindows readAll testFrom testWindows recordBytes zonesBytes windowsBytes allBytes
+no-windows-stored = refl
 
 -- a refused SetTimeZone changes nothing, the count included
 refused-zones : setTimeZone full (zonesBytes (zone (pos 0) 5 ∷ [])) ≡ record { state = full; answer = refused ConstraintError; effects = [] }
@@ -61,8 +66,8 @@ refused-zones = refl
 
 -- an accepted one empties the windows, answers that offsets are required, and reports both lists
 no-zones : setTimeZone full (0 ∷ [])
-    ≡ record { state = store empty 0; answer = answers true; effects = wakeTimer ∷ storeRecord (0 ∷ 0 ∷ []) ∷ report TimeZone ∷ report DSTOffset ∷ [] }
-unfolding setTimeZone recordOf verdict after readZones readAll testFrom testZones recordBytes zonesBytes windowsBytes allBytes
+    ≡ record { state = store empty 0; answer = answers true; effects = wakeTimer ∷ storeRecord ∷ report TimeZone ∷ report DSTOffset ∷ [] }
+unfolding setTimeZone verdict after readZones readAll testFrom testZones
 no-zones = refl
 
 -- factory reset: removed, then woken; nothing is reported

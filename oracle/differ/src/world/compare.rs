@@ -6,7 +6,7 @@ use oracle::trace;
 
 use super::{number, source_value, stored_value, Diff, Done, Kind, World};
 use crate::bytes;
-use crate::port::{Port, MOMENTS_MAX, RECORD_MAX};
+use crate::port::{place, Port, MOMENTS_MAX, RECORD_MAX};
 
 /// Whether a reading is refused, and with which number
 fn refusal<T>(r: Result<T, u64>) -> Result<(), u64> {
@@ -50,9 +50,10 @@ impl World {
         same!(self, "TimeSource", self.port.source(), Ok(self.device.attr_source().into()));
         same!(self, "TrustedTimeSource", self.port.trusted().map(source_value), Ok(self.device.attr_trusted()));
         let (utc, persisted, g, s, anchor) = self.device.rtc_fields();
-        let p = &self.port;
-        let fields = (p.word(24, 8), p.word(32, 8), p.word(16, 1) as u8, p.word(17, 1) as u8, p.word(18, 1), p.word(40, 8));
-        same!(self, "clock fields", fields, (utc, persisted, g, s, anchor.is_some().into(), anchor.unwrap_or(0)));
+        let long = [place::UTC, place::PERSISTED, place::ANCHOR].map(|at| self.port.word(at, 8));
+        same!(self, "clock, moments and anchor", long, [utc, persisted, anchor.unwrap_or(0)]);
+        let codes = [place::GRANULARITY, place::SOURCE, place::SET].map(|at| self.port.word(at, 1) as u8);
+        same!(self, "clock, codes", codes, [g, s, anchor.is_some().into()]);
         let local = self.device.local_time();
         let want = local.map_err(|e| u64::from(driver::number(e)));
         same!(self, "LocalTime", self.port.local_time(self.tick), want);
@@ -83,7 +84,20 @@ impl World {
     }
 
     fn compare_lists(&mut self, probes: &[u64], short: bool) -> Done {
-        // both lists, by entry
+        self.compare_entries(short)?;
+        self.compare_numbers()?;
+        self.compare_record(short)?;
+        for (i, now) in probes.iter().enumerate() {
+            self.compare_lookups(*now, short)?;
+            if i < 2 || probes.len() > 6 {
+                self.compare_walk(*now, short)?;
+            }
+        }
+        Ok(())
+    }
+
+    /// Both lists by entry, past their ends too
+    fn compare_entries(&mut self, short: bool) -> Done {
         let zones = self.store().zones();
         same!(self, "TimeZone, count", self.port.zone_count(), Ok(zones.len() as u64));
         for (i, z) in zones.iter().enumerate() {
@@ -108,13 +122,19 @@ impl World {
         if short {
             self.compare_attributes(zones.len(), windows.len())?;
         }
-        // numbers
+        Ok(())
+    }
+
+    fn compare_numbers(&mut self) -> Done {
         let (z, w) = self.store().max_sizes();
         same!(self, "zone limit", self.port.zone_limit(), Ok(z.into()));
         same!(self, "window limit", self.port.window_limit(), Ok(w.into()));
         same!(self, "generation", self.port.generation(), Ok(self.store().generation().into()));
         same!(self, "table empty", self.port.table_empty(), Ok(self.store().dst_table_empty().into()));
-        // the record
+        Ok(())
+    }
+
+    fn compare_record(&mut self, short: bool) -> Done {
         trace::take();
         let stored = self.store().store();
         same!(self, "record, oracle", number(&stored), 0);
@@ -125,29 +145,31 @@ impl World {
             same!(self, "record, no room", self.port.record(want.len() - 1), Err(9));
         }
         same!(self, "record", self.port.record(want.len()), Ok(want));
-        // lookups
-        for (i, now) in probes.iter().enumerate() {
-            let now = *now;
-            let (offset, name) = self.store().active_time_zone(now);
-            let name = name.map(String::into_bytes);
-            let room = name.as_ref().map_or(0, Vec::len);
-            if short && room > 0 {
-                same!(self, "active zone, no room", self.port.active_zone(now, room - 1), Err(9));
-            }
-            same!(self, format_args!("active zone at {now}"), self.port.active_zone(now, room), Ok((offset, name)));
-            same!(self, format_args!("active window at {now}"), self.port.active_window(now), Ok(self.store().active_dst_offset(now)));
-            same!(self, format_args!("usable at {now}"), self.port.usable(now), Ok(self.store().dst_usable(now).into()));
-            let next = self.store().next_transition(now);
-            same!(self, format_args!("next transition at {now}"), self.port.next_transition(now), Ok(next));
-            if i < 2 || probes.len() > 6 {
-                let walk = [vec![now], self.store().walk(now)].concat();
-                let room = 8 * walk.len();
-                if short {
-                    same!(self, "walk, no room", self.port.walk(now, room - 1), Err(9));
-                }
-                same!(self, format_args!("walk from {now}"), self.port.walk(now, room), Ok(walk));
-            }
+        Ok(())
+    }
+
+    fn compare_lookups(&mut self, now: u64, short: bool) -> Done {
+        let (offset, name) = self.store().active_time_zone(now);
+        let name = name.map(String::into_bytes);
+        let room = name.as_ref().map_or(0, Vec::len);
+        if short && room > 0 {
+            same!(self, "active zone, no room", self.port.active_zone(now, room - 1), Err(9));
         }
+        same!(self, format_args!("active zone at {now}"), self.port.active_zone(now, room), Ok((offset, name)));
+        same!(self, format_args!("active window at {now}"), self.port.active_window(now), Ok(self.store().active_dst_offset(now)));
+        same!(self, format_args!("usable at {now}"), self.port.usable(now), Ok(self.store().dst_usable(now).into()));
+        let next = self.store().next_transition(now);
+        same!(self, format_args!("next transition at {now}"), self.port.next_transition(now), Ok(next));
+        Ok(())
+    }
+
+    fn compare_walk(&mut self, now: u64, short: bool) -> Done {
+        let walk = [vec![now], self.store().walk(now)].concat();
+        let room = 8 * walk.len();
+        if short {
+            same!(self, "walk, no room", self.port.walk(now, room - 1), Err(9));
+        }
+        same!(self, format_args!("walk from {now}"), self.port.walk(now, room), Ok(walk));
         Ok(())
     }
 

@@ -4,7 +4,7 @@ use oracle::driver::{self, Outcome, Part, Stand};
 use oracle::trace::{self, Effect};
 
 use super::{Diff, Done, Kind, World};
-use crate::port::{LookTold, Port};
+use crate::port::{place, LookTold, Port};
 use crate::tally;
 
 /// What a step of the client's loop did, by the port
@@ -108,34 +108,11 @@ impl World {
 
     /// The client's loop until it waits, on an image
     fn client_round(&mut self, port: &mut Port, woken: &mut bool, outcome: &Outcome) -> Result<Round, Diff> {
-        let (answered, utc, granularity) = Self::reading(outcome);
         let mut round = Round { effects: Vec::new(), due: self.client.flatten(), backwards: false };
         let (mut must, mut fresh) = (self.client.is_none(), false);
         loop {
             if must {
-                let trusted = port.trusted().map_err(|e| Diff(format!("trusted source is refused with {e}")))?;
-                if let Some((fab, node, endpoint)) = trusted {
-                    round.effects.push(Effect::Initiate(fab, node));
-                    if *outcome != Outcome::NoSession {
-                        round.effects.push(Effect::Read(vec![(endpoint, 0), (endpoint, 1)], true));
-                    }
-                }
-                let before = port.clone();
-                let (p, wait) = port.attempt(answered, utc, granularity, self.tick);
-                tally::met(["attempt, waits 0", "attempt, waits for a time", "attempt, waits for a source"][wait.0.min(2) as usize], &p);
-                same!(self, "attempt, answer", p.answer, 0);
-                let applied = p.answer == 0 && trusted.is_some() && answered && utc.is_some() && granularity != Some(0);
-                let missing = trusted.is_none() || !answered;
-                for (mark, at, code, asked) in [(88, 72, 0x24, missing), (89, 80, 0x23, !applied)] {
-                    if asked && before.word(mark, 1) == 1 && before.word(at, 8) > self.tick {
-                        round.backwards = true;
-                        tally::met("attempt before its mark", &p);
-                        same!(self, "attempt before its mark, no event", p.effects.contains(&code), false);
-                        same!(self, "attempt before its mark, mark kept", (port.word(mark, 1), port.word(at, 8)), (1, before.word(at, 8)));
-                    }
-                }
-                round.effects.extend(Self::effects(port, &p, None, None)?);
-                self.park(&mut round, wait)?;
+                self.attempt(port, outcome, &mut round)?;
                 (must, fresh) = (false, true);
             }
             if !fresh && round.due.is_some_and(|due| due <= self.tick) {
@@ -155,6 +132,35 @@ impl World {
                 return Ok(round);
             }
         }
+    }
+
+    /// One attempt: what is asked for, and how long to wait
+    fn attempt(&mut self, port: &mut Port, outcome: &Outcome, round: &mut Round) -> Done {
+        let (answered, utc, granularity) = Self::reading(outcome);
+        let trusted = port.trusted().map_err(|e| Diff(format!("trusted source is refused with {e}")))?;
+        if let Some((fab, node, endpoint)) = trusted {
+            round.effects.push(Effect::Initiate(fab, node));
+            if *outcome != Outcome::NoSession {
+                round.effects.push(Effect::Read(vec![(endpoint, 0), (endpoint, 1)], true));
+            }
+        }
+        let before = port.clone();
+        let (p, wait) = port.attempt(answered, utc, granularity, self.tick);
+        tally::met(["attempt, waits 0", "attempt, waits for a time", "attempt, waits for a source"][wait.0.min(2) as usize], &p);
+        same!(self, "attempt, answer", p.answer, 0);
+        let applied = p.answer == 0 && trusted.is_some() && answered && utc.is_some() && granularity != Some(0);
+        let missing = trusted.is_none() || !answered;
+        let marks = [(place::MISSING, place::MISSING_AT, 0x24, missing), (place::FAILURE, place::FAILURE_AT, 0x23, !applied)];
+        for (mark, at, code, asked) in marks {
+            if asked && before.word(mark, 1) == 1 && before.word(at, 8) > self.tick {
+                round.backwards = true;
+                tally::met("attempt before its mark", &p);
+                same!(self, "attempt before its mark, no event", p.effects.contains(&code), false);
+                same!(self, "attempt before its mark, mark kept", (port.word(mark, 1), port.word(at, 8)), (1, before.word(at, 8)));
+            }
+        }
+        round.effects.extend(Self::effects(port, &p, None, None)?);
+        self.park(round, wait)
     }
 
     fn park(&self, round: &mut Round, wait: (u64, u64)) -> Done {

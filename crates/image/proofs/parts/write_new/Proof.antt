@@ -1,37 +1,65 @@
 -- `image::parts::write_new` meets its contract.
-use mathlib.Core.List.{[], _∷_}
-use mathlib.Core.Option.{none}
-use mathlib.Core.Path.{refl, ap, _∙_}
-use Prim.Native.Nat.{ℕ}
 use borrow.Author.Needs.{needs}
-use lib.ListN.{replicate, length-replicate}
-use Rattle.model.specs.Bytes.{bytes}
-use Rattle.model.specs.Clock.{Clock, fresh}
-use Rattle.model.specs.Retries.{Client, newClient}
-use Rattle.model.proofs.Words.{length-bytes}
+use mathlib.Core.List.{[], _∷_, _++_}
+use mathlib.Core.Path.{ap, _∙_}
+use Prim.Native.Nat.{ℕ}
+use native.Mathlib.Omega.{arith}
+use Rattle.model.specs.Clock.{Clock}
+use Rattle.model.specs.Retries.{Client}
+use Rattle.model.specs.Rules.{Rules}
 use Rattle.word.specs.Place.{put}
-use Rattle.image.specs.Parts.{bit, limitOf, clockBytes, timerBytes, clientBytes, newBytes}
-use Rattle.image.proofs.Written.{wrote-six, length-timer, length-clock, length-client}
+use Rattle.word.proofs.Writes.{Wrote, wrote-put, wrote-as, same-length as kept}
+use Rattle.table.specs.Layout as T
+use Rattle.image.specs.Layout.{magicPlace, storePlace, clockPlace, clientPlace, tablePlace}
+use Rattle.image.specs.Parts.{limitOf, clockBytes, clientBytes, newBytes}
+use Rattle.image.proofs.Written.{newFront, length-front, length-table, front-and, wrote-front}
 use Rattle.image.proofs.parts.write_new.Statement.{statement}
 use Rattle.image.proofs.parts.write_new.Tie as tie
+use Rattle.rtc.proofs.Rtc.new.Reads as Rtc-new-reads
+use Rattle.time_sync_client.proofs.TimeSyncClient.new.Reads as TimeSyncClient-new-reads
+
+front : (c : tie.After-slice-known6) → let a = c .before .before .before .before .before .before .before .before .before .before .before .before .before .before .before .before .before .before .before .before .before .before .before .before .args in
+    Wrote (a .s .now) magicPlace (newFront (a .lists) (a .build) (a .period)) (c .before .before .write-timer .last .0)
+front c =
+    let start = c .before .before .before .before .before .before .before .before .before .before .before .before .before .before .before .before .before .before .before .before .before .before .before .before in
+    let a = start .args in
+    let m = c .before .before .before .before .before .before .before .before .before .before .before .before .before .before .before .before .before .before .before .before .before .put-u32 in
+    let f = c .before .before .before .before .before .before .before .before .before .before .before .before .before .before .before .before .put-bytes in
+    let k = c .before .before .before .before .before .before .before .before .before .before .before .write-clock in
+    let q = c .before .before .before .before .before .before .write-client in
+    let t = c .before .before .write-timer in
+    wrote-front (a .lists) (a .build) (a .period) (a .s .now) (m .last .0) (f .last .0) (k .last .0) (q .last .0) (t .last .0) (start .pre) (m .ensures .1)
+    (f .ensures ∙ ap (λ (n : ℕ). put (m .last .0) storePlace (n ∷ 0 ∷ 0 ∷ 0 ∷ [])) (c .before .before .before .before .before .before .before .before .before .before .before .before .before .before .before .before .before .bit-of .ensures))
+    (k .ensures ∙ ap (λ (x : Clock). put (f .last .0) clockPlace (clockBytes x)) (c .before .before .before .before .before .before .before .before .before .before .before .before .new .ensures))
+    (q .ensures ∙ ap (λ (x : Client). put (k .last .0) clientPlace (clientBytes x)) (c .before .before .before .before .before .before .before .new2 .ensures)) (t .ensures)
+
+done : (c : tie.After-slice-known7) → let a = c .before .before .before .before .before .before .before .before .before .before .before .before .before .before .before .before .before .before .before .before .before .before .before .before .before .before .before .before .before .before .args in
+    Wrote (a .s .now) magicPlace (newBytes (a .lists) (a .zones) (a .windows) (a .build) (a .period)) (c .before .before .put-table .last .0)
+done c =
+    let start = c .before .before .before .before .before .before .before .before .before .before .before .before .before .before .before .before .before .before .before .before .before .before .before .before .before .before .before .before .before .before in
+    let a = start .args in
+    let w = front (c .before .before .before .before .before .before) in
+    let o = c .before .before .before .before .before .before .before .before .write-timer .last .0 in
+    let p = c .before .before .put-table in
+    let z = c .before .before .before .before .limit-of in
+    let y = c .before .before .before .limit-of2 in
+    let r : Rules = record { zoneLimit = limitOf (a .lists) (a .zones); windowLimit = limitOf (a .lists) (a .windows) } in
+    let e = p .ensures ∙ ap (λ (n : ℕ). put o tablePlace (T.newBytes (record { zoneLimit = n; windowLimit = y .result }))) (z .ensures)
+    ∙ ap (λ (n : ℕ). put o tablePlace (T.newBytes (record { zoneLimit = limitOf (a .lists) (a .zones); windowLimit = n }))) (y .ensures) in
+    let l = length-front (a .lists) (a .build) (a .period) in
+    wrote-as (wrote-put w (T.newBytes r) tablePlace (p .last .0) (omega arith) (omega (arith, length-table r, start .pre)) e)
+    (newBytes (a .lists) (a .zones) (a .windows) (a .build) (a .period)) (front-and (a .lists) (a .zones) (a .windows) (a .build) (a .period))
+
+put-table-requires : tie.Need-put-table-requires
+put-table-requires c κs = omega (arith, kept (front (c .before .before .before)), c .before .before .before .before .before .before .before .before .before .before .before .before .before .before .before .before .before .before .before .before .before .before .before .before .before .before .before .pre)
+
+same-length : tie.Need-same-length
+same-length c = kept (done c)
 
 returns : tie.Need-returns
-unfolding newBytes
-returns c =
-    let start = c .before .before .before .before .before .before .before .before .before .before .before .before .before .before .before .before .before .before .before .before .before .before .before .before .before .before .before in
-    let a = start .args in
-    let o₁ = c .before .before .before .before .before .before .before .before .before .before .before .before .before .before .before .before .before .before .before .before .before .before .before .before .put-front .last .0 in
-    let o₂ = c .before .before .before .before .before .before .before .before .before .before .before .before .before .before .before .before .before .before .before .before .write-timer .last .0 in
-    let o₃ = c .before .before .before .before .before .before .before .before .before .before .before .before .before .before .before .before .put-u32 .last .0 in
-    let o₄ = c .before .before .before .before .before .before .before .before .before .before .before .write-clock .last .0 in
-    let o₅ = c .before .before .before .before .before .before .write-client .last .0 in
-    let e₄ = c .before .before .before .before .before .before .before .before .before .before .before .write-clock .ensures ∙ ap (λ (x : Clock). put o₃ 16 (clockBytes x)) (c .before .before .before .before .before .before .before .before .before .before .before .before .new .ensures) in
-    let e₅ = c .before .before .before .before .before .before .write-client .ensures ∙ ap (λ (x : Client). put o₄ 56 (clientBytes x)) (c .before .before .before .before .before .before .before .new2 .ensures) in
-    wrote-six (a .s .now) (bit (a .lists) ∷ limitOf (a .lists) (a .zones) ∷ limitOf (a .lists) (a .windows) ∷ 0 ∷ 0 ∷ []) (timerBytes none) (bytes 4 0) (clockBytes (fresh (a .build)))
-    (clientBytes (newClient (a .period))) (replicate 1030 0) o₁ o₂ o₃ o₄ o₅ (c .before .before .put-zeros .last .0) refl (length-timer none) (length-bytes 4 0) (length-clock (fresh (a .build)))
-    (length-client (newClient (a .period))) (length-replicate {A = ℕ} 1030 0) (start .pre) (c .before .before .before .before .before .before .before .before .before .before .before .before .before .before .before .before .before .before .before .before .before .before .before .before .put-front .ensures) (c .before .before .before .before .before .before .before .before .before .before .before .before .before .before .before .before .before .before .before .before .write-timer .ensures) (c .before .before .before .before .before .before .before .before .before .before .before .before .before .before .before .before .put-u32 .ensures .1) e₄ e₅ (c .before .before .put-zeros .ensures)
+returns c = done c .is
 
 pub write-new-spec : {M : Type 1} → statement M
 write-new-spec =
     tie.close
-    (tie.spec (λ c κs. search needs) (λ c κs. search needs) (λ c κs. search needs) (λ c κs. search needs) (λ c κs. search needs) (λ c κs. search needs) (λ c κs. search needs) (λ c κs. search needs) (λ c. search needs) returns)
+    (tie.spec (λ c κs. search needs) (λ c κs. search needs) (λ c κs. search needs) (λ c κs. search needs) (λ c κs. search needs) (λ c κs. search needs) (λ c κs. search needs) (λ c κs. search needs) (λ c κs. search needs) (λ c κs. search needs) put-table-requires same-length returns)

@@ -1,6 +1,6 @@
 -- `image::parts::write_timer` meets its contract.
-use mathlib.Core.Path.{_≡_}
 use borrow.Author.Needs.{needs}
+use mathlib.Core.Path.{_≡_}
 use mir.Syntax.{w32}
 use mir.Val.{toZ, ofZ}
 use Rattle.model.specs.Bytes.{bitsOf}
@@ -14,8 +14,7 @@ returns c = rw (c .before .before .before .before .enum-told .given .1) (c .befo
 
 returns-2 : tie.Need-returns-2
 unfolding timerBytes
-returns-2 c =
-    let v = c .before .before .before .before .before .before .before .before .seen .given .0 .0 in
+returns-2 c = let v = c .before .before .before .before .before .before .before .before .seen .given .0 .0 in
     let back : toZ w32 (ofZ w32 (v .offset)) ≡ v .offset = search needs in
     rw (c .before .before .before .before .before .before .before .before .seen .given .1, ← c .before .before .before .before .before .bit-of .ensures, ← c .before .before .before .before .bit-of2 .ensures, ← back) (c .before .before .put-timer2 .ensures)
 

@@ -1,25 +1,54 @@
 -- `lookups::transitions::window_transition` meets its contract.
-use mathlib.Core.Path.{_≡_, _∙_}
-use lib.ListN.{length, length-map}
+use mathlib.Core.List.{List}
+use mathlib.Core.Path.{_≡_, sym, _∙_, ap}
+use Prim.Native.Nat.{ℕ, _+_, _-_, _≤_}
 use native.Mathlib.Omega.{arith}
 use borrow.Author.Needs.{needs}
-use Rattle.lookups.proofs.Soonest.{both-halves}
+use Rattle.model.specs.Lists.{Window}
+use Rattle.model.specs.Lookups.{windowBounds}
+use Rattle.word.specs.Place.{wordAt}
+use Rattle.lookups.specs.Transitions.{sooner, soonest}
+use Rattle.table.specs.Layout.{windowCount, entriesFrom, windowsIn}
+use Rattle.lookups.proofs.Entries.{whole}
+use Rattle.lookups.proofs.Soonest.{past-window, windows-over}
+use Rattle.lookups.proofs.Views.{windowWithIndex}
 use Rattle.lookups.proofs.transitions.window_transition.Statement.{statement}
 use Rattle.lookups.proofs.transitions.window_transition.Tie as tie
 
--- the array's length
-sixteen : (c : tie.Start) → length (c .args .d .«dst_offset») ≡ 16
-sixteen c = simp length-map at (c .good .0 .1 .1 .1 .1 .0 .1 .0 .1)
+abbrev Inv-loop : tie.InvT-loop
+Inv-loop s utc sofar n best₀ i₀ best i =
+    (n ≡ windowCount s) × (i ≤ n) ×
+    (soonest utc sofar (windowBounds (windowsIn s)) ≡ soonest utc best (windowBounds (entriesFrom (windowWithIndex s) i (n - i))))
 
-returns : tie.Need-returns
+abbrev μ-loop : tie.MeasureT-loop
+μ-loop s utc sofar n best₀ i₀ best i = n - i
+
+loop-holds : tie.Need-loop-holds Inv-loop μ-loop
+unfolding windowsIn
+loop-holds c =
+    let a = c .before .before .args in
+    let e = c .window-count .ensures in
+    (e, omega arith, ap (λ (ws : List Window). soonest (a .utc) (a .sofar) (windowBounds ws)) (whole (windowWithIndex (a .table .now)) _ (windowCount (a .table .now)) e))
+
+loop-again : tie.Need-loop-again Inv-loop μ-loop
+loop-again c =
+    let m = c .before .before in
+    let w = m .before .before in
+    let l = w .before .before in
+    let a = l .before .before .before .args in
+    let s = a .table .now in
+    let t = m .before .u64-at .ensures ∙ ap (λ (p : ℕ). wordAt 8 s (p + 4)) (w .window-place .ensures) in
+    let e = m .sooner-of .ensures ∙ ap (λ (t : ℕ). sooner (a .utc) (l .loop .best) t) t in
+    let f = c .sooner-of2 .ensures ∙ ap (λ (t : ℕ). sooner (a .utc) (m .sooner-of .result) t) (c .before .end-or-zero .ensures) in
+    (search needs, search needs, l .loop .inv .2 ∙ past-window (a .utc) _ (l .loop .i) (windowWithIndex s) (l .loop .best) _ _ (omega arith) e f)
+
+returns : tie.Need-returns Inv-loop μ-loop
 returns c =
-    let s = c .before .before .before .before in
-    let a = s .args in
-    let k = sixteen s in
-    c .windows-between2 .ensures
-    ∙ rw (c .before .windows-between .ensures, c .before .before .least2 .ensures, c .before .before .before .least .ensures) (both-halves (a .now) (a .sofar) 8 16 (a .d .«dst_offset_count») (a .d .«dst_offset») (omega arith))
+    let l = c .before in
+    let a = l .before .before .before .args in
+    sym (l .loop .inv .2 ∙ windows-over (a .utc) _ (l .loop .i) (windowWithIndex (a .table .now)) (l .loop .best) (omega arith))
 
 pub window-transition-spec : {M : Type 1} → statement M
 window-transition-spec =
     tie.close
-    (tie.spec (λ c κs. search needs) (λ c κs. search needs) (λ c κs. search needs) (λ c κs. search needs) returns)
+    (tie.spec Inv-loop μ-loop (λ c κs. search needs) loop-holds (λ c κs. search needs) (λ c. search needs) (λ c κs. search needs) (λ c κs. search needs) (λ c κs. search needs) (λ c κs. search needs) (λ c. search needs) (λ c. search needs) loop-again returns)

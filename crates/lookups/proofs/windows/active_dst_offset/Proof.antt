@@ -1,62 +1,58 @@
 -- `lookups::windows::active_dst_offset` meets its contract.
-use mathlib.Core.Path.{_≡_, refl, sym, _∙_, ap}
-use Prim.Native.Nat.{_≤_, _-_, min}
-use lib.ListN.{length, drop, length-map}
+use mathlib.Core.List.{List}
+use mathlib.Core.Option.{Option}
+use mathlib.Core.Path.{_≡_, sym, _∙_, ap}
+use Prim.Native.Nat.{_-_, _≤_}
 use native.Mathlib.Omega.{arith}
 use borrow.Author.Needs.{needs}
 use Rattle.model.specs.Basics.{keep, first}
-use Rattle.lookups.specs.Shown.{windowEntries}
-use Rattle.lookups.proofs.Left.{first-hit, first-miss, first-over}
-use Rattle.lookups.proofs.Views.{active, offsetIn, first-offset}
+use Rattle.model.specs.Lists.{Window}
+use Rattle.model.specs.Lookups.{isActive, activeWindow, offsetOf, activeOffset}
+use Rattle.model.specs.Maybe.{maybeI32}
+use Rattle.table.specs.Layout.{windowCount, entriesFrom, windowsIn, listsIn}
+use Rattle.lookups.proofs.Entries.{whole, first-hit, first-miss, first-over}
+use Rattle.lookups.proofs.Views.{windowWithIndex}
 use Rattle.lookups.proofs.windows.active_dst_offset.Statement.{statement}
 use Rattle.lookups.proofs.windows.active_dst_offset.Tie as tie
 
 abbrev Inv-loop : tie.InvT-loop
-Inv-loop now d n i₀ i =
-    (n ≡ min (d .«dst_offset_count») 16) × (i ≤ n) ×
-    (first (keep (active now) (windowEntries d)) ≡ first (keep (active now) (drop i (windowEntries d))))
+Inv-loop s utc n i₀ i =
+    (n ≡ windowCount s) × (i ≤ n) × (activeWindow (listsIn s) utc ≡ first (keep (isActive utc) (entriesFrom (windowWithIndex s) i (n - i))))
 
 abbrev μ-loop : tie.MeasureT-loop
-μ-loop now d n i₀ i = n - i
-
--- the array's length
-sixteen : (c : tie.Start Inv-loop μ-loop) → length (c .args .t1 .«dst_offset») ≡ 16
-sixteen c = simp length-map at (c .good .0 .1 .1 .1 .1 .0 .1 .0 .1)
+μ-loop s utc n i₀ i = n - i
 
 loop-holds : tie.Need-loop-holds Inv-loop μ-loop
-loop-holds c = (c .least .ensures, omega arith, refl)
+unfolding activeWindow windowsIn
+loop-holds c =
+    let a = c .before .before .args in
+    let e = c .window-count .ensures in
+    (e, omega arith, ap (λ (ws : List Window). first (keep (isActive (a .utc)) ws)) (whole (windowWithIndex (a .table .now)) _ (windowCount (a .table .now)) e))
 
 returns : tie.Need-returns Inv-loop μ-loop
+unfolding activeOffset
 returns c =
-    let b = c .before .before .before .before .before in
-    let a = b .before .before .args in
-    let d = a .t1 in
-    let k = sixteen (b .before .before) in
+    let l = c .before .before .before .before in
+    let a = l .before .before .before .args in
     let t = sym (c .before .before .is-active .ensures) ∙ c .before .if1 .taken in
-    let h = first-hit (active (a .now)) (d .«dst_offset_count») (d .«dst_offset») (b .loop .i) _ (omega arith) (omega arith) t in
-    c .offset-of .ensures ∙ sym (first-offset d (a .now) ∙ ap offsetIn (b .loop .inv .2 ∙ h))
+    let h = first-hit (isActive (a .utc)) (windowWithIndex (a .table .now)) (l .before .window-count .result) (l .loop .i) (omega arith) t in
+    c .offset-of .ensures ∙ sym (ap (λ (w : Option Window). maybeI32 (offsetOf w)) (l .loop .inv .2 ∙ h))
 
 loop-again : tie.Need-loop-again Inv-loop μ-loop
 loop-again c =
-    let b = c .before .before .before .before in
-    let a = b .before .before .args in
-    let d = a .t1 in
-    let k = sixteen (b .before .before) in
-    let t = sym (c .before .is-active .ensures) ∙ c .if1 .left in (
-      search needs,
-      search needs,
-      b .loop .inv .2 ∙ first-miss (active (a .now)) (d .«dst_offset_count») (d .«dst_offset») (b .loop .i) _ (omega arith) (omega arith) t,
-    )
+    let l = c .before .before .before in
+    let a = l .before .before .before .args in
+    let t = sym (c .before .is-active .ensures) ∙ c .if1 .left in
+    (search needs, search needs, l .loop .inv .2 ∙ first-miss (isActive (a .utc)) (windowWithIndex (a .table .now)) _ (l .loop .i) (omega arith) t)
 
 returns-2 : tie.Need-returns-2 Inv-loop μ-loop
+unfolding activeOffset
 returns-2 c =
-    let b = c .before in
-    let a = b .before .before .args in
-    let d = a .t1 in
-    let k = sixteen (b .before .before) in
-    sym (first-offset d (a .now) ∙ ap offsetIn (b .loop .inv .2 ∙ first-over (active (a .now)) (d .«dst_offset_count») (d .«dst_offset») (b .loop .i) (omega arith)))
+    let l = c .before in
+    let a = l .before .before .before .args in
+    sym (ap (λ (w : Option Window). maybeI32 (offsetOf w)) (l .loop .inv .2 ∙ first-over (isActive (a .utc)) (windowWithIndex (a .table .now)) _ (l .loop .i) (omega arith)))
 
 pub active-dst-offset-spec : {M : Type 1} → statement M
 active-dst-offset-spec =
     tie.close
-    (tie.spec Inv-loop μ-loop (λ c κs. search needs) loop-holds (λ c. search needs) (λ c. search needs) (λ c. search needs) (λ c κs. search needs) (λ c κs. search needs) returns (λ c. search needs) loop-again returns-2)
+    (tie.spec Inv-loop μ-loop (λ c κs. search needs) loop-holds (λ c. search needs) (λ c κs. search needs) (λ c κs. search needs) returns (λ c. search needs) loop-again returns-2)

@@ -1,66 +1,60 @@
 -- `lookups::zones::active_time_zone` meets its contract.
+use mathlib.Core.Bool.{Bool}
+use mathlib.Core.List.{List}
 use mathlib.Core.Path.{_≡_, sym, _∙_, ap}
-use mathlib.Core.List.{[]}
-use Prim.Native.Nat.{_≤_, min}
-use lib.ListN.{length, drop, length-map}
+use Prim.Native.Nat.{ℕ, _-_, _≤_}
 use native.Mathlib.Omega.{arith}
-use borrow.Author.Tests.{le-leb, lt-leb}
 use borrow.Author.Needs.{needs}
-use Rattle.model.specs.Basics.{keep}
-use Rattle.lookups.specs.Shown.{zoneEntries, begun, shown}
-use Rattle.lookups.proofs.Left.{last-hit, last-miss, last-none, keep-over}
+use borrow.Author.Tests.{le-leb, lt-leb}
+use lib.Dec.{leb}
+use Rattle.model.specs.Basics.{keep, last}
+use Rattle.table.specs.Layout.{zoneCount, entriesFrom}
+use Rattle.lookups.specs.Shown.{shownBy, activeIndex}
+use Rattle.lookups.proofs.Entries.{last-hit, last-miss, last-over}
+use Rattle.lookups.proofs.Views.{zoneWithIndex}
 use Rattle.lookups.proofs.zones.active_time_zone.Statement.{statement}
 use Rattle.lookups.proofs.zones.active_time_zone.Tie as tie
 
+-- the zone with an index has started
+abbrev begun : List ℕ → ℕ → ℕ → Bool
+begun s utc i = leb (zoneWithIndex s i .start) utc
+
 abbrev Inv-loop : tie.InvT-loop
-Inv-loop now d i₀ i =
-    (i ≤ min (d .«time_zone_count») 8) × (keep (begun now) (drop i (zoneEntries d)) ≡ [])
+Inv-loop s utc i₀ i = (i ≤ zoneCount s) × (activeIndex s utc ≡ last (keep (begun s utc) (entriesFrom (λ k. k) 0 i)))
 
 abbrev μ-loop : tie.MeasureT-loop
-μ-loop now d i₀ i = i
-
--- the array's length
-eight : (c : tie.Start Inv-loop μ-loop) → length (c .args .t1 .«time_zone») ≡ 8
-eight c = simp length-map at (c .good .0 .1 .1 .0 .1 .0 .1)
+μ-loop s utc i₀ i = i
 
 loop-holds : tie.Need-loop-holds Inv-loop μ-loop
+unfolding activeIndex
 loop-holds c =
-    let a = c .before .args in
-    let d = a .t1 in
-    let k = eight (c .before) in (
-      omega (arith, c .least .ensures),
-      keep-over (begun (a .now)) (d .«time_zone_count») (d .«time_zone») (c .least .result) (omega (arith, c .least .ensures)),
-    )
+    let a = c .before .before .args in
+    let e = c .zone-count .ensures in
+    (omega (arith, e), ap (λ (n : ℕ). last (keep (begun (a .table .now) (a .utc)) (entriesFrom (λ k. k) 0 n))) (sym e))
 
 returns : tie.Need-returns Inv-loop μ-loop
 returns c =
-    let b = c .before .before .before .before .before in
-    let a = b .before .before .args in
-    let d = a .t1 in
-    let k = eight (b .before .before) in
-    let t = le-leb _ _ (c .before .if1 .taken) in
-    let h = last-hit (begun (a .now)) (d .«time_zone_count») (d .«time_zone») (b .loop .i) _ (omega arith) (omega arith) (omega arith) (b .loop .inv .1) t in
-    c .shown-of .ensures ∙ sym (ap shown h)
+    let l = c .before .before .before .before in
+    let a = l .before .before .before .args in
+    let s = a .table .now in
+    let t = le-leb (zoneWithIndex s (l .loop .i - 1) .start) (a .utc) (omega (arith, c .before .before .zone-start .ensures)) in
+    c .zone-shown .ensures ∙ sym (ap (shownBy s) (l .loop .inv .1 ∙ last-hit (begun s (a .utc)) (λ k. k) (l .loop .i) (omega arith) t))
 
 loop-again : tie.Need-loop-again Inv-loop μ-loop
 loop-again c =
-    let b = c .before .before .before .before in
-    let a = b .before .before .args in
-    let d = a .t1 in
-    let k = eight (b .before .before) in
-    let t = lt-leb _ _ (c .if1 .left) in (
-      omega arith,
-      last-miss (begun (a .now)) (d .«time_zone_count») (d .«time_zone») (b .loop .i) _ (omega arith) (omega arith) (omega arith) (b .loop .inv .1) t,
-    )
+    let l = c .before .before .before in
+    let a = l .before .before .before .args in
+    let t = lt-leb (zoneWithIndex (a .table .now) (l .loop .i - 1) .start) (a .utc) (omega (arith, c .before .zone-start .ensures)) in
+    (omega arith, l .loop .inv .1 ∙ last-miss (begun (a .table .now) (a .utc)) (λ k. k) (l .loop .i) (omega arith) t)
 
 returns-2 : tie.Need-returns-2 Inv-loop μ-loop
 returns-2 c =
-    let b = c .before .before in
-    let a = b .before .before .args in
-    let d = a .t1 in
-    c .no-zone .ensures ∙ sym (ap shown (last-none (begun (a .now)) (d .«time_zone_count») (d .«time_zone») (b .loop .i) (omega arith) (b .loop .inv .1)))
+    let l = c .before .before in
+    let a = l .before .before .before .args in
+    let s = a .table .now in
+    c .no-zone .ensures ∙ sym (ap (shownBy s) (l .loop .inv .1 ∙ last-over (begun s (a .utc)) (λ k. k) (l .loop .i) (omega arith)))
 
 pub active-time-zone-spec : {M : Type 1} → statement M
 active-time-zone-spec =
     tie.close
-    (tie.spec Inv-loop μ-loop (λ c κs. search needs) loop-holds (λ c. search needs) (λ c. search needs) (λ c. search needs) (λ c κs. search needs) returns (λ c. search needs) loop-again (λ c κs. search needs) returns-2)
+    (tie.spec Inv-loop μ-loop (λ c κs. search needs) loop-holds (λ c. search needs) (λ c κs. search needs) (λ c κs. search needs) returns (λ c. search needs) loop-again (λ c κs. search needs) returns-2)

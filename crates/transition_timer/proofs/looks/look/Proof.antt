@@ -7,15 +7,15 @@ use Rattle.transition_timer.proofs.looks.look.Tie as tie
 
 returns : tie.Need-returns
 unfolding lookBy
-returns c = simp (c .quiet .ensures, not-true (c .before .before .args .there) (c .before .if1 .taken))
+returns c = simp (c .quiet .ensures, not-true (c .before .before .before .args .there) (c .before .if1 .taken))
 
 returns-2 : tie.Need-returns-2
 unfolding lookBy
-returns-2 c = simp (c .look-at .ensures, not-false (c .before .before .before .before .before .args .there) (c .before .before .before .before .if1 .left), c .before .before .reading .given .1)
+returns-2 c = simp (c .look-at .ensures, not-false (c .before .before .before .before .before .before .args .there) (c .before .before .before .before .if1 .left), c .before .before .reading .given .1)
 
 returns-3 : tie.Need-returns-3
 unfolding lookBy
-returns-3 c = simp (c .quiet2 .ensures, not-false (c .before .before .before .before .args .there) (c .before .before .before .if1 .left), c .before .enum-told .given .1)
+returns-3 c = simp (c .quiet2 .ensures, not-false (c .before .before .before .before .before .args .there) (c .before .before .before .if1 .left), c .before .enum-told .given .1)
 
 pub look-spec : {M : Type 1} → statement M
 look-spec =

@@ -1,6 +1,6 @@
 -- `transition_timer::looks::look_at` meets its contract: each field is what a call answered.
 use mathlib.Core.Bool.{Bool, _&&_, cond}
-use mathlib.Core.Option.{Option, none}
+use mathlib.Core.Option.{Option}
 use mathlib.Core.Path.{_≡_, ap, _∙_}
 use Prim.Native.Nat.{ℕ}
 use borrow.Author.Needs.{needs}
@@ -12,9 +12,9 @@ use Rattle.model.specs.Lookups.{activeOffset, nextTransition}
 use Rattle.model.specs.Maybe.{optionU64, maybeU64, optionI32, maybeI32}
 use Rattle.model.specs.Timer.{zoneDue, activeDue, emptyDue}
 use Rattle.model.proofs.Maybe.{moment-back, offset-back}
-use Rattle.record.specs.Data.{listsOf}
-use Rattle.lookups.specs.declared.ActiveTimeZone.{ActiveTimeZone}
-use Rattle.lookups.specs.Shown.{shown}
+use Rattle.table.specs.Layout.{listsIn}
+use Rattle.lookups.specs.declared.ZoneShown.{ZoneShown}
+use Rattle.lookups.specs.Shown.{blankShown}
 use Rattle.transition_timer.specs.declared.Seen.{Seen}
 use Rattle.transition_timer.specs.declared.LastSeen.{LastSeen}
 use Rattle.transition_timer.specs.declared.LastSeen.the-variants.{Saw}
@@ -25,15 +25,15 @@ use Rattle.transition_timer.proofs.looks.look_at.Statement.{statement}
 use Rattle.transition_timer.proofs.looks.look_at.Tie as tie
 
 -- what is seen, from what the calls answered
-seen-is : (z zone : ActiveTimeZone) (o : Option ℤ) (m : MaybeI32) (active usable u : Bool) (new : Seen)
+seen-is : (z zone : ZoneShown) (o : Option ℤ) (m : MaybeI32) (active usable u : Bool) (new : Seen)
     → z ≡ zone → m ≡ maybeI32 o → active ≡ isSome (optionI32 m) → usable ≡ u → new ≡ seenFrom z active usable
     → new ≡ seenFrom zone (isSome o) u
 seen-is z zone o m active usable u new ez em ea eu en = simp (en, ez, ea, em, offset-back o, eu)
 
 -- the look, from what the calls answered
-look-is : (last : LastSeen) (z zone told : ActiveTimeZone) (next : MaybeU64) (o : Option ℕ) (now : ℕ) (a : Bool) (new seen : Seen) (zs ds da de : Bool) (s : Sleep)
+look-is : (last : LastSeen) (z zone told : ZoneShown) (next : MaybeU64) (o : Option ℕ) (now : ℕ) (a : Bool) (new seen : Seen) (zs ds da de : Bool) (s : Sleep)
     → z ≡ zone → new ≡ seen → a ≡ seen .active → next ≡ maybeU64 o
-    → zs ≡ zoneDue (timerOf last) (seenOf new) → told ≡ cond zs z (shown none) → ds ≡ activeDue (timerOf last) (seenOf new)
+    → zs ≡ zoneDue (timerOf last) (seenOf new) → told ≡ cond zs z blankShown → ds ≡ activeDue (timerOf last) (seenOf new)
     → da ≡ ds && a → de ≡ emptyDue (timerOf last) (seenOf new) → s ≡ sleepBy (optionU64 next) now
     → _≡_ {A = Look}
     (record { seen = Saw new; «zone_status» = zs; zone = told; «dst_status» = ds; «dst_active» = da; «dst_table_empty» = de; sleep = s })
@@ -45,12 +45,12 @@ returns : tie.Need-returns
 returns c =
     let c5 = c .before .before .before .before .before in
     let c9 = c5 .before .before .before .before in
-    let g = c9 .before .before .before .args in
-    let o = activeOffset (listsOf (g .lists)) (g .now) in
+    let g = c9 .before .before .before .before .args in
+    let o = activeOffset (listsIn (g .table .now)) (g .utc) in
     let off = c9 .before .active-dst-offset .ensures in
     let zone = c9 .before .before .active-time-zone .ensures in
     let new = seen-is _ _ o _ _ _ _ _ zone off (c9 .is-there .ensures) (c5 .before .before .before .dst-usable .ensures) (c5 .before .before .seen-from .ensures) in
-    look-is (g .last) _ _ _ _ (nextTransition (listsOf (g .lists)) (g .now)) (g .now) _ _ _ _ _ _ _ _ zone new (c9 .is-there .ensures ∙ ap (λ (m : MaybeI32). isSome (optionI32 m)) off ∙ ap isSome (offset-back o))
+    look-is (g .last) _ _ _ _ (nextTransition (listsIn (g .table .now)) (g .utc)) (g .utc) _ _ _ _ _ _ _ _ zone new (c9 .is-there .ensures ∙ ap (λ (m : MaybeI32). isSome (optionI32 m)) off ∙ ap isSome (offset-back o))
     (c .before .next-transition .ensures) (c5 .before .zone-due .ensures) (c .before .before .before .before .zone-told .ensures)
     (c5 .active-due .ensures) (c .before .before .before .mark-told .ensures) (c .before .before .empty-due .ensures) (c .sleep-until .ensures)
 

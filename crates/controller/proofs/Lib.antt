@@ -1,5 +1,0 @@
--- Demand 3 at the entry points.
-pub mod Left
-pub mod Next
-pub mod Claim
-pub mod Kept

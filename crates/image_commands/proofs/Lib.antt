@@ -1,5 +1,0 @@
--- Laws that the proofs of several functions cite.
-pub mod Says
-pub mod Stores
-pub mod Tested
-pub mod Told

@@ -1,3 +1,0 @@
--- Lookups in the lists of an image.
-pub mod Shown
-pub mod Laws

@@ -1,6 +1,0 @@
-pub mod Answered
-pub mod Codes
-pub mod Counts
-pub mod Names
-pub mod Walks
-pub mod Stored

@@ -1,3 +1,0 @@
--- The readings of the device that an image stands for.
-pub mod Readings
-pub mod There

@@ -1,9 +1,0 @@
--- Whether a list store can be read.
-use mathlib.Core.Bool.{cond}
-use mathlib.Core.List.{List}
-use Prim.Native.Nat.{ℕ}
-use Rattle.image.specs.Layout.{markAt, isImage}
-
--- 0 for an image with a list store, else the number of the refusal
-unfoldable pub listsRefusal : List ℕ → ℕ
-listsRefusal s = cond (isImage s) (cond (markAt s 0) 0 6) 8

@@ -1,0 +1,50 @@
+-- What holds of the clock. The proofs stand in proofs/ClockLaws.antt; that a clock never reads less at a later tick is `NeverBack` in Claims.
+use mathlib.Core.Bool.{true}
+use mathlib.Core.Option.{Option}
+use mathlib.Core.Path.{_≡_}
+use Prim.Native.Nat.{ℕ, _≤_, _<_}
+use Rattle.model.specs.declared.TimeGranularity.{TimeGranularity}
+use Rattle.model.specs.declared.TimeGranularity.the-variants.{Seconds, Milliseconds}
+use Rattle.model.specs.declared.TimeSource.{TimeSource}
+use Rattle.model.specs.Basics.{top}
+use Rattle.model.specs.Answers.{done, TrustedSource}
+use Rattle.model.specs.Clock.{Clock, Reading, reliable, lastKnown, reading, load, granularityRead, lowered, isKept, setUtcTime, distance, setUtcTimePersist}
+
+-- ## Settings and readings
+
+-- a setting that is kept reads back at its tick
+abbrev pub ReadsBack : Type 0
+ReadsBack =
+    (c : Clock) (utc : ℕ) (g : TimeGranularity) (s : TimeSource) (tick : ℕ)
+    → isKept c utc g s ≡ true → utc ≤ top → reading (setUtcTime c utc g s tick .state) tick ≡ reliable utc
+
+-- after a setting, kept or not, the granularity reads one step lower
+abbrev pub ReadsLowered : Type 0
+ReadsLowered =
+    (c : Clock) (utc : ℕ) (g : TimeGranularity) (s : TimeSource) (tick : ℕ)
+    → granularityRead (setUtcTime c utc g s tick .state) ≡ lowered g
+
+-- Microseconds, which a client hands over as Milliseconds, end at Seconds
+abbrev pub EndsAtSeconds : Type 0
+EndsAtSeconds =
+    (c : Clock) (utc : ℕ) (s : TimeSource) (tick : ℕ)
+    → granularityRead (setUtcTimePersist c utc Milliseconds s tick .state) ≡ Seconds
+
+-- a last known moment that is not before the build moment
+abbrev pub LastKnownFrom : ℕ → Reading → Type 0
+LastKnownFrom build (reliable moment) = ⊥
+LastKnownFrom build (lastKnown moment) = build ≤ moment
+
+-- a load that is taken never reads below the build moment
+abbrev pub NeverBelowBuild : Type 0
+NeverBelowBuild =
+    (build : ℕ) (c : Clock) (moment : Option ℕ) (source : Option TrustedSource) (tick : ℕ)
+    → load build c moment source .answer ≡ done → LastKnownFrom build (reading (load build c moment source .state) tick)
+
+-- ## Storing
+
+-- after every persisting call the persisted moment is less than a day from the set one
+abbrev pub WithinADay : Type 0
+WithinADay =
+    (c : Clock) (utc : ℕ) (g : TimeGranularity) (s : TimeSource) (tick : ℕ)
+    → distance (setUtcTimePersist c utc g s tick .state .persisted) utc < 86400000000

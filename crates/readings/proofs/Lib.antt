@@ -1,0 +1,6 @@
+pub mod Answered
+pub mod Codes
+pub mod Counts
+pub mod Names
+pub mod Walks
+pub mod Records

@@ -1,0 +1,16 @@
+pub mod Held
+pub mod Writing
+pub mod Requests
+pub mod Raw
+pub mod Sections
+pub mod Bounds
+pub mod Listed
+pub mod Parts
+pub mod Alike
+pub mod Back
+pub mod Written
+pub mod Records
+pub mod Made
+pub mod Room
+pub mod Heads
+pub mod Follows

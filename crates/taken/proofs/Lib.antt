@@ -1,4 +1,0 @@
-pub mod Copies
-pub mod Found
-pub mod Requests
-pub mod Whole

@@ -1,2 +1,0 @@
--- What the contracts of `taken` cite.
-pub mod ByValue

@@ -1,0 +1,48 @@
+/*
+ * Requests and records as bytes, for the C programs beside this file.
+ */
+#ifndef LISTS_H
+#define LISTS_H
+
+#include <stddef.h>
+#include <stdint.h>
+#include <string.h>
+
+#define DAY UINT64_C(86400000000)
+#define HOUR UINT64_C(3600000000)
+#define MINUTE UINT64_C(60000000)
+
+/* Each function writes at a place and answers the place behind what it wrote. */
+
+static inline size_t put(uint8_t *to, size_t at, uint64_t value, size_t bytes)
+{
+    for (size_t i = 0; i < bytes; i++)
+        to[at + i] = (uint8_t)(value >> (8 * i));
+    return at + bytes;
+}
+
+/* A zone; without a name where name is NULL. */
+static inline size_t put_zone(uint8_t *to, size_t at, int32_t offset, uint64_t start, const char *name)
+{
+    at = put(to, at, (uint32_t)offset, 4);
+    at = put(to, at, start, 8);
+    to[at++] = name != NULL;
+    if (name != NULL) {
+        size_t length = strlen(name);
+        to[at++] = (uint8_t)length;
+        memcpy(to + at, name, length);
+        at += length;
+    }
+    return at;
+}
+
+/* A window; without an end where end is 0. */
+static inline size_t put_window(uint8_t *to, size_t at, int32_t offset, uint64_t start, uint64_t end)
+{
+    at = put(to, at, (uint32_t)offset, 4);
+    at = put(to, at, start, 8);
+    to[at++] = end != 0;
+    return end != 0 ? put(to, at, end, 8) : at;
+}
+
+#endif
