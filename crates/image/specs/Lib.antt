@@ -3,3 +3,4 @@ pub mod Layout
 pub mod Parts
 pub mod Asked
 pub mod Laws
+pub mod Examples

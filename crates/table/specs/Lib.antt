@@ -3,3 +3,4 @@ pub mod Layout
 pub mod Held
 pub mod Left
 pub mod Laws
+pub mod Examples
