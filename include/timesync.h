@@ -106,21 +106,21 @@
  *  bytes  call
  *      8  image_size
  *     40  new
- *    200  set_utc_time
- *    184  set_trusted_time_source
- *   2184  set_time_zone
- *   2152  set_dst_offset
- *    336  load_lists
+ *     56  set_utc_time
+ *     16  set_trusted_time_source
+ *   2136  set_time_zone
+ *   2168  set_dst_offset
+ *    184  load_lists
  *      8  reset_lists
  *     40  load_clock
  *      8  reset_clock
- *    200  rtc_set_utc_time
- *    200  rtc_set_utc_time_persist
+ *     72  rtc_set_utc_time
+ *     96  rtc_set_utc_time_persist
  *      8  utc_time_granularity
  *      8  utc_time_source
  *      8  trusted_time_source
  *      8  utc_time
- *    120  local_time
+ *      8  local_time
  *      8  time_zone_count
  *      8  dst_offset_count
  *      8  time_zone_list_max_size
@@ -128,17 +128,17 @@
  *      8  time_zone_database
  *      8  generation
  *      8  dst_table_empty
- *     88  time_zone
+ *     48  time_zone
  *     24  dst_offset
  *      8  dst_usable
- *    136  active_time_zone
+ *     48  active_time_zone
  *      8  active_dst_offset
- *     80  next_transition
- *    752  walk
+ *      8  next_transition
+ *    712  walk
  *   2088  record
- *    408  look
- *    312  attempt
- *    200  source_changed
+ *    184  look
+ *    176  attempt
+ *     16  source_changed
  */
 #ifndef TIMESYNC_H
 #define TIMESYNC_H

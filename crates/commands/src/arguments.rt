@@ -48,7 +48,7 @@ pub(crate) fn source_readable(mark: u8, n: u8) -> bool
     if mark == 0 {
         return true;
     }
-    match model::source_of(n) {
+    match numbers::source_of(n) {
         SourceRead::Bad => false,
         SourceRead::Is(_) => true,
     }

@@ -44,7 +44,7 @@ pub fn set_utc_time(
     if !arguments::source_readable(has_source, source) {
         return UNREADABLE;
     }
-    match model::granularity_of(granularity) {
+    match numbers::granularity_of(granularity) {
         GranularityRead::Bad => UNREADABLE,
         GranularityRead::Is(g) => utc_time_taken(image, utc_us, g, tick),
     }
@@ -117,9 +117,9 @@ pub fn rtc_set_utc_time(
     if !is_image(image) {
         return BAD_LIMITS;
     }
-    match model::granularity_of(granularity) {
+    match numbers::granularity_of(granularity) {
         GranularityRead::Bad => UNREADABLE,
-        GranularityRead::Is(g) => match model::source_of(source) {
+        GranularityRead::Is(g) => match numbers::source_of(source) {
             SourceRead::Bad => UNREADABLE,
             SourceRead::Is(t) => rtc_set(image, utc_us, g, t, tick, changed),
         },
@@ -163,9 +163,9 @@ pub fn rtc_set_utc_time_persist(
     if !is_image(image) {
         return BAD_LIMITS;
     }
-    match model::granularity_of(granularity) {
+    match numbers::granularity_of(granularity) {
         GranularityRead::Bad => UNREADABLE,
-        GranularityRead::Is(g) => match model::source_of(source) {
+        GranularityRead::Is(g) => match numbers::source_of(source) {
             SourceRead::Bad => UNREADABLE,
             SourceRead::Is(t) => rtc_set_persist(image, utc_us, g, t, tick, changed),
         },

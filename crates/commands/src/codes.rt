@@ -130,7 +130,7 @@ pub(crate) fn trusted_source(stored: SourceStored) -> u64
 pub(crate) fn refusal(cause: Refusal) -> u64
     ensures { λ r. ⌜ r ≡ returned (refusalNumber cause) [] ⌝ }
 {
-    model::refusal_number(cause) as u64
+    numbers::refusal_number(cause) as u64
 }
 
 // A refused SetDSTOffset: its number, and the timer where the refusal leaves no window.

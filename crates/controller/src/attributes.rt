@@ -77,7 +77,7 @@ pub extern "C" fn timesync_time_zone_count(image: &[u8], value: &mut u64) -> u64
     ensures { λ r. ⌜ (r ≡ numberOf (zonesListed (now (image .entry))))
         × (now (value .exit) ≡ leaves (zonesListed (now (image .entry))) (λ n. n) (now (value .entry))) ⌝ }
 {
-    readings::numbers::time_zone_count(image, value)
+    readings::store::time_zone_count(image, value)
 }
 
 // DSTOffset: how many windows there are.
@@ -86,7 +86,7 @@ pub extern "C" fn timesync_dst_offset_count(image: &[u8], value: &mut u64) -> u6
     ensures { λ r. ⌜ (r ≡ numberOf (windowsListed (now (image .entry))))
         × (now (value .exit) ≡ leaves (windowsListed (now (image .entry))) (λ n. n) (now (value .entry))) ⌝ }
 {
-    readings::numbers::dst_offset_count(image, value)
+    readings::store::dst_offset_count(image, value)
 }
 
 // TimeZoneListMaxSize.
@@ -95,7 +95,7 @@ pub extern "C" fn timesync_time_zone_list_max_size(image: &[u8], value: &mut u64
     ensures { λ r. ⌜ (r ≡ numberOf (zoneLimit (now (image .entry))))
         × (now (value .exit) ≡ leaves (zoneLimit (now (image .entry))) (λ n. n) (now (value .entry))) ⌝ }
 {
-    readings::numbers::time_zone_list_max_size(image, value)
+    readings::store::time_zone_list_max_size(image, value)
 }
 
 // DSTOffsetListMaxSize.
@@ -104,7 +104,7 @@ pub extern "C" fn timesync_dst_offset_list_max_size(image: &[u8], value: &mut u6
     ensures { λ r. ⌜ (r ≡ numberOf (windowLimit (now (image .entry))))
         × (now (value .exit) ≡ leaves (windowLimit (now (image .entry))) (λ n. n) (now (value .entry))) ⌝ }
 {
-    readings::numbers::dst_offset_list_max_size(image, value)
+    readings::store::dst_offset_list_max_size(image, value)
 }
 
 // TimeZoneDatabase: None, whose number is 2.
@@ -113,7 +113,7 @@ pub extern "C" fn timesync_time_zone_database(image: &[u8], value: &mut u64) -> 
     ensures { λ r. ⌜ (r ≡ numberOf (database (now (image .entry))))
         × (now (value .exit) ≡ leaves (database (now (image .entry))) (λ n. n) (now (value .entry))) ⌝ }
 {
-    readings::numbers::time_zone_database(image, value)
+    readings::store::time_zone_database(image, value)
 }
 
 // How many changes of the lists there were.
@@ -122,7 +122,7 @@ pub extern "C" fn timesync_generation(image: &[u8], value: &mut u64) -> u64
     ensures { λ r. ⌜ (r ≡ numberOf (generation (now (image .entry))))
         × (now (value .exit) ≡ leaves (generation (now (image .entry))) (λ n. n) (now (value .entry))) ⌝ }
 {
-    readings::numbers::generation(image, value)
+    readings::store::generation(image, value)
 }
 
 // Whether some window is open or ends after now.
@@ -131,7 +131,7 @@ pub extern "C" fn timesync_dst_usable(image: &[u8], utc: u64, value: &mut u64) -
     ensures { λ r. ⌜ (r ≡ numberOf (usable (now (image .entry)) utc))
         × (now (value .exit) ≡ leaves (usable (now (image .entry)) utc) truth (now (value .entry))) ⌝ }
 {
-    readings::numbers::dst_usable(image, utc, value)
+    readings::store::dst_usable(image, utc, value)
 }
 
 // Whether there is no window at all.
@@ -140,5 +140,5 @@ pub extern "C" fn timesync_dst_table_empty(image: &[u8], value: &mut u64) -> u64
     ensures { λ r. ⌜ (r ≡ numberOf (tableEmpty (now (image .entry))))
         × (now (value .exit) ≡ leaves (tableEmpty (now (image .entry))) truth (now (value .entry))) ⌝ }
 {
-    readings::numbers::dst_table_empty(image, value)
+    readings::store::dst_table_empty(image, value)
 }

@@ -97,7 +97,7 @@ const MOMENT: usize = 8;
 fn granularity_at(s: &[u8], at: usize) -> TimeGranularity
     ensures { λ r. ⌜ r ≡ orNoTime (granularityOf (byteAt (now (s .entry)) at)) ⌝ }
 {
-    match model::granularity_of(u8_at(s, at)) {
+    match numbers::granularity_of(u8_at(s, at)) {
         GranularityRead::Is(granularity) => granularity,
         GranularityRead::Bad => TimeGranularity::NoTime,
     }
@@ -107,7 +107,7 @@ fn granularity_at(s: &[u8], at: usize) -> TimeGranularity
 fn source_at(s: &[u8], at: usize) -> TimeSource
     ensures { λ r. ⌜ r ≡ orNone (sourceOf (byteAt (now (s .entry)) at)) ⌝ }
 {
-    match model::source_of(u8_at(s, at)) {
+    match numbers::source_of(u8_at(s, at)) {
         SourceRead::Is(source) => source,
         SourceRead::Bad => TimeSource::None,
     }
@@ -305,8 +305,8 @@ fn write_clock(s: &mut [u8], at: usize, rtc: Rtc)
     put_bytes(
         s,
         at,
-        model::granularity_number(granularity),
-        model::source_number(source),
+        numbers::granularity_number(granularity),
+        numbers::source_number(source),
         mark_of(anchor),
         trusted_mark(trusted),
     );

@@ -1,5 +1,5 @@
 -- Entries that stand one after another: what is left of n at index i is `entriesFrom entry i (n - i)`, what is before it `entriesFrom entry 0 i`.
-use mathlib.Core.Bool.{Bool, true, false}
+use mathlib.Core.Bool.{Bool, true, false, _||_}
 use mathlib.Core.List.{List, [], _∷_, _++_, map}
 use mathlib.Core.Option.{some, none}
 use mathlib.Core.Path.{_≡_, refl, _∙_, ap}
@@ -79,6 +79,10 @@ module _ {A : Type 0} where
   last-end (y ∷ []) x = refl
   last-end (y ∷ (z ∷ xs)) x = last-end (z ∷ xs) x
 
+or-true : (b : Bool) → b || true ≡ true
+or-true true = refl
+or-true false = refl
+
 module _ {A : Type 0} (test : A → Bool) where
   keep-more : (xs : List A) (x : A) → test x ≡ true → keep test (xs ++ (x ∷ [])) ≡ keep test xs ++ (x ∷ [])
   unfolding keep
@@ -94,20 +98,18 @@ module _ {A : Type 0} (test : A → Bool) where
       let ih = keep-same xs x t in
       by-test (test y) (λ e. rw (e, ih)) (λ e. rw (e, ih))
 
+  any-more : (xs : List A) (x : A) → test x ≡ true → any test (xs ++ (x ∷ [])) ≡ true
+  unfolding any
+  any-more [] x t = rw t
+  any-more (y ∷ xs) x t = rw (any-more xs x t) (or-true (test y))
+
+  any-same : (xs : List A) (x : A) → test x ≡ false → any test (xs ++ (x ∷ [])) ≡ any test xs
+  unfolding any
+  any-same [] x t = rw t
+  any-same (y ∷ xs) x t = rw (any-same xs x t)
+
   module _ (entry : ℕ → A) where
     module _ (n i : ℕ) where
-      pub any-hit : i < n → test (entry i) ≡ true → any test (entriesFrom entry i (n - i)) ≡ true
-      unfolding any
-      any-hit h t = rw (next entry n i h, t)
-
-      pub any-miss : i < n → test (entry i) ≡ false → any test (entriesFrom entry i (n - i)) ≡ any test (entriesFrom entry (i + 1) (n - (i + 1)))
-      unfolding any
-      any-miss h t = rw (next entry n i h, t)
-
-      pub any-over : n ≤ i → any test (entriesFrom entry i (n - i)) ≡ false
-      unfolding any
-      any-over h = rw (over entry n i h)
-
       pub first-hit : i < n → test (entry i) ≡ true → first (keep test (entriesFrom entry i (n - i))) ≡ some (entry i)
       unfolding first keep
       first-hit h t = rw (next entry n i h, t)
@@ -122,6 +124,16 @@ module _ {A : Type 0} (test : A → Bool) where
       first-over h = rw (over entry n i h)
 
     module _ (i : ℕ) where
+      pub any-hit : 0 < i → test (entry (i - 1)) ≡ true → any test (entriesFrom entry 0 i) ≡ true
+      any-hit h t = ap (any test) (previous entry i h) ∙ any-more (entriesFrom entry 0 (i - 1)) (entry (i - 1)) t
+
+      pub any-miss : 0 < i → test (entry (i - 1)) ≡ false → any test (entriesFrom entry 0 i) ≡ any test (entriesFrom entry 0 (i - 1))
+      any-miss h t = ap (any test) (previous entry i h) ∙ any-same (entriesFrom entry 0 (i - 1)) (entry (i - 1)) t
+
+      pub any-over : i ≤ 0 → any test (entriesFrom entry 0 i) ≡ false
+      unfolding any entriesFrom
+      any-over h = let e : i ≡ 0 = omega arith in ap (λ (k : ℕ). any test (entriesFrom entry 0 k)) e
+
       pub last-hit : 0 < i → test (entry (i - 1)) ≡ true → last (keep test (entriesFrom entry 0 i)) ≡ some (entry (i - 1))
       last-hit h t =
           ap (λ (xs : List A). last (keep test xs)) (previous entry i h) ∙ ap (λ (xs : List A). last xs) (keep-more (entriesFrom entry 0 (i - 1)) (entry (i - 1)) t)

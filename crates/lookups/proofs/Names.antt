@@ -8,7 +8,8 @@ use borrow.Author.Tests.{ltb-true}
 use lib.Dec.{leb, ltb}
 use Rattle.model.specs.Basics.{keep, last}
 use Rattle.model.proofs.Facts.{by-test}
-use Rattle.table.specs.Layout.{markAt, zonePlace, zoneAt, entriesFrom, zoneCount}
+use Rattle.table.specs.Layout.{markAt, zoneCountPlace, zonePlace, zoneAt, entriesFrom, zoneCount}
+use Rattle.table.proofs.Counts.{count-most, zone-stands}
 use Rattle.lookups.specs.declared.ZoneShown.{ZoneShown}
 use Rattle.lookups.specs.declared.ZoneListed.{ZoneListed}
 use Rattle.lookups.specs.Shown.{shownAt, shownBy, activeIndex, zoneListedIn}
@@ -32,12 +33,12 @@ module _ (s : List ℕ) where
 
   active-inside : (now : ℕ) → EndsInside (shownBy s (activeIndex s now))
   unfolding activeIndex
-  active-inside now = last-inside (λ i. leb (zoneAt s (zonePlace i) .start) now) (zoneCount s) (omega arith)
+  active-inside now = last-inside (λ i. leb (zoneAt s (zonePlace i) .start) now) (zoneCount s) (count-most zoneCountPlace 8 s)
 
   listed-inside : (i : ℕ) → EndsInside (zoneListedIn s i .zone)
   unfolding zoneListedIn
   listed-inside i =
-      by-test (ltb i (zoneCount s)) (λ t. rw t (inside i (omega (arith, ltb-true i (zoneCount s) t)))) (λ t. rw t (omega arith))
+      by-test (ltb i (zoneCount s)) (λ t. rw t (inside i (zone-stands s i (ltb-true i (zoneCount s) t) .0))) (λ t. rw t (omega arith))
 
 pub name-in-place : NameInPlace
 name-in-place s = (active-inside s, listed-inside s)

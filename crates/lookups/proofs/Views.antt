@@ -17,7 +17,8 @@ use Rattle.model.specs.Maybe.{optionU64, maybeU64}
 use Rattle.model.proofs.Facts.{by-test}
 use Rattle.model.proofs.Maybe.{moment-back}
 use Rattle.word.specs.Place.{byteAt, wordAt}
-use Rattle.table.specs.Layout.{markAt, maybeAt, zonePlace, windowPlace, zoneAt, windowAt, entriesFrom, zoneCount, windowCount, zonesIn, windowsIn}
+use Rattle.table.specs.Layout.{markAt, maybeAt, zoneCountPlace, windowCountPlace, zonePlace, windowPlace, zoneAt, windowAt, entriesFrom, zoneCount, windowCount, zonesIn, windowsIn}
+use Rattle.table.proofs.Counts.{count-most}
 use Rattle.lookups.specs.Shown.{shownAt, blankShown, shownBy, zoneIndices, activeIndex, listedOf, zoneListedIn, windowEntry, windowListed, windowListedIn}
 use Rattle.lookups.specs.Laws.{zoneNowIn, zoneIn, zoneListedOf, windowListedOf, ActiveShown, ZoneListedMeans, WindowListedMeans}
 use Rattle.lookups.proofs.Entries.{length-entries, entry-here, by-index, at-past}
@@ -141,8 +142,8 @@ window-listed s i =
 
 pub few-zones : (s : List ℕ) → length (zonesIn s) ≤ 8
 unfolding zonesIn
-few-zones s = omega (arith, length-entries (zoneWithIndex s) 0 (zoneCount s))
+few-zones s = omega (arith, length-entries (zoneWithIndex s) 0 (zoneCount s), count-most zoneCountPlace 8 s)
 
 pub few-windows : (s : List ℕ) → length (windowsIn s) ≤ 16
 unfolding windowsIn
-few-windows s = omega (arith, length-entries (windowWithIndex s) 0 (windowCount s))
+few-windows s = omega (arith, length-entries (windowWithIndex s) 0 (windowCount s), count-most windowCountPlace 16 s)

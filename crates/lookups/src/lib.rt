@@ -1,4 +1,5 @@
 // What is looked up in the lists of a table, in their places: nothing is copied.
+mod held;
 pub mod transitions;
 pub mod windows;
 pub mod zones;

@@ -1,12 +1,14 @@
 // The next transition, and the walk from one to the next.
 ghost use mathlib.Core.Path.{_≡_};
-ghost use Prim.Native.Nat.{_<_};
+ghost use Prim.Native.Nat.{_<_, _≤_};
+ghost use lib.ListN.{length};
 ghost use Rattle.model.specs.Lookups.{nextTransition, zoneStarts, windowBounds};
 ghost use Rattle.model.specs.Maybe.{maybeU64};
 ghost use Rattle.model.specs.Walk as W;
 ghost use Rattle.lookups.specs.Transitions.{endOrZero, sooner, soonest, momentOf, walkOwned};
-ghost use Rattle.table.specs.Layout.{windowPlace, windowAt, zonesIn, windowsIn, listsIn};
+ghost use Rattle.table.specs.Layout.{tableSize, windowPlace, windowAt, zonesIn, windowsIn, listsIn};
 use crate::Walk;
+use crate::held::u64_at;
 use crate::window_place;
 use crate::windows::window_end;
 use crate::zone_place;
@@ -14,7 +16,6 @@ use model::MaybeU64;
 use table::layout::START;
 use table::layout::window_count;
 use table::layout::zone_count;
-use word::or_zero::u64_at;
 
 // The longest walk: 8 starts of zones, 16 starts and 16 ends of windows.
 const MOST_STEPS: usize = 40;
@@ -34,7 +35,7 @@ fn sooner_of(utc: u64, best: u64, t: u64) -> u64
 
 // The end of the window with index i, or 0 where there is none: 0 is after no moment.
 fn end_or_zero(table: &[u8], i: usize) -> u64
-    requires { ⌜ i < 16 ⌝ }
+    requires { ⌜ (i < 16) × (tableSize ≤ length (now table)) ⌝ }
     ensures { λ r. ⌜ r ≡ endOrZero (maybeU64 (windowAt (now (table .entry)) (windowPlace i) .until)) ⌝ }
 {
     let end = window_end(table, i);

@@ -1,15 +1,18 @@
 // Lookups in the list of windows.
 ghost use mathlib.Core.Path.{_≡_};
 ghost use mathlib.Core.Option.{some, none};
-ghost use Prim.Native.Nat.{_<_};
+ghost use Prim.Native.Nat.{_<_, _≤_};
+ghost use lib.ListN.{length};
 ghost use Rattle.model.specs.Bytes.{signed};
 ghost use Rattle.model.specs.Lookups.{isActive, isUsable, activeOffset, lastActiveWindow, offsetOf, usable, tableEmpty};
 ghost use Rattle.model.specs.Maybe.{maybeI32, maybeU64};
 ghost use Rattle.word.specs.Place.{wordAt};
-ghost use Rattle.table.specs.Layout.{windowPlace, windowAt, listsIn};
+ghost use Rattle.table.specs.Layout.{tableSize, windowPlace, windowAt, listsIn};
 ghost use Rattle.lookups.specs.Shown.{windowEntry, windowListed, windowListedIn};
 use crate::DSTOffsetEntry;
 use crate::DSTOffsetListed;
+use crate::held::i32_at;
+use crate::held::u64_at;
 use crate::window_place;
 use model::MaybeI32;
 use model::MaybeU64;
@@ -17,17 +20,14 @@ use table::layout::END;
 use table::layout::MARK;
 use table::layout::START;
 use table::layout::window_count;
-use word::or_zero::i32_at;
-use word::or_zero::u8_at;
-use word::or_zero::u64_at;
 
 // The end of the window with index i, if it has one.
 pub(crate) fn window_end(table: &[u8], i: usize) -> MaybeU64
-    requires { ⌜ i < 16 ⌝ }
+    requires { ⌜ (i < 16) × (tableSize ≤ length (now table)) ⌝ }
     ensures { λ r. ⌜ r ≡ maybeU64 (windowAt (now (table .entry)) (windowPlace i) .until) ⌝ }
 {
     let at = window_place(i);
-    if u8_at(table, at + MARK) == 0 {
+    if table[at + MARK] == 0 {
         return MaybeU64::Nothing;
     }
     MaybeU64::Is(u64_at(table, at + END))
@@ -35,7 +35,7 @@ pub(crate) fn window_end(table: &[u8], i: usize) -> MaybeU64
 
 // The window with index i is open or its end is after now, started or not.
 fn is_usable(table: &[u8], i: usize, utc: u64) -> bool
-    requires { ⌜ i < 16 ⌝ }
+    requires { ⌜ (i < 16) × (tableSize ≤ length (now table)) ⌝ }
     ensures { λ r. ⌜ r ≡ isUsable utc (windowAt (now (table .entry)) (windowPlace i)) ⌝ }
 {
     let end = window_end(table, i);
@@ -45,20 +45,20 @@ fn is_usable(table: &[u8], i: usize, utc: u64) -> bool
     }
 }
 
-// The window with index i has started and has not ended.
+// The window with index i has started and has not ended; the start of one that has ended is not read.
 fn is_active(table: &[u8], i: usize, utc: u64) -> bool
-    requires { ⌜ i < 16 ⌝ }
+    requires { ⌜ (i < 16) × (tableSize ≤ length (now table)) ⌝ }
     ensures { λ r. ⌜ r ≡ isActive utc (windowAt (now (table .entry)) (windowPlace i)) ⌝ }
 {
-    if utc < u64_at(table, window_place(i) + START) {
-        return false;
+    if is_usable(table, i, utc) {
+        return u64_at(table, window_place(i) + START) <= utc;
     }
-    is_usable(table, i, utc)
+    false
 }
 
 // The offset of the window with index i.
 fn offset_of(table: &[u8], i: usize) -> MaybeI32
-    requires { ⌜ i < 16 ⌝ }
+    requires { ⌜ (i < 16) × (tableSize ≤ length (now table)) ⌝ }
     ensures { λ r. ⌜ r ≡ MaybeI32.Is (signed (wordAt 4 (now (table .entry)) (windowPlace i))) ⌝ }
 {
     MaybeI32::Is(i32_at(table, window_place(i)))
@@ -94,16 +94,14 @@ pub fn last_active_dst_offset(table: &[u8], utc: u64) -> MaybeI32
     MaybeI32::Nothing
 }
 
-// Some window is open or ends after now.
+// Some window is open or ends after now, looked for from the end: the last window runs out last.
 pub fn dst_usable(table: &[u8], utc: u64) -> bool
     ensures { λ r. ⌜ r ≡ usable (listsIn (now (table .entry))) utc ⌝ }
 {
-    let n = window_count(table);
-    let mut i: usize = 0;
-    while i < n {
-        let w = i;
-        i += 1;
-        if is_usable(table, w, utc) {
+    let mut i = window_count(table);
+    while 0 < i {
+        i -= 1;
+        if is_usable(table, i, utc) {
             return true;
         }
     }
@@ -119,7 +117,7 @@ pub fn dst_table_empty(table: &[u8]) -> bool
 
 // The window with index i, listed.
 fn window_there(table: &[u8], i: usize) -> DSTOffsetListed
-    requires { ⌜ i < 16 ⌝ }
+    requires { ⌜ (i < 16) × (tableSize ≤ length (now table)) ⌝ }
     ensures { λ r. ⌜ r ≡ windowListed (some (windowEntry (windowAt (now (table .entry)) (windowPlace i)))) ⌝ }
 {
     let at = window_place(i);

@@ -1,13 +1,16 @@
 // Lookups in the list of zones.
 ghost use mathlib.Core.Bool.{true};
 ghost use mathlib.Core.Path.{_≡_};
-ghost use Prim.Native.Nat.{_+_, _<_};
+ghost use Prim.Native.Nat.{_+_, _<_, _≤_};
+ghost use lib.ListN.{length};
 ghost use Rattle.word.specs.Place.{wordAt};
 ghost use Rattle.model.specs.Lookups.{activeZone};
-ghost use Rattle.table.specs.Layout.{zonePlace, listsIn};
+ghost use Rattle.table.specs.Layout.{tableSize, zonePlace, listsIn};
 ghost use Rattle.lookups.specs.Shown.{shownAt, blankShown, shownBy, activeIndex, zoneListedIn};
 use crate::ZoneListed;
 use crate::ZoneShown;
+use crate::held::i32_at;
+use crate::held::u64_at;
 use crate::zone_place;
 use table::layout::MARK;
 use table::layout::MOST_NAME;
@@ -16,13 +19,10 @@ use table::layout::NAME_LENGTH;
 use table::layout::START;
 use table::layout::zone_count;
 use word::least;
-use word::or_zero::i32_at;
-use word::or_zero::u8_at;
-use word::or_zero::u64_at;
 
 // The start of the zone with index i.
 fn zone_start(table: &[u8], i: usize) -> u64
-    requires { ⌜ i < 8 ⌝ }
+    requires { ⌜ (i < 8) × (tableSize ≤ length (now table)) ⌝ }
     ensures { λ r. ⌜ r ≡ wordAt 8 (now (table .entry)) (zonePlace i + 4) ⌝ }
 {
     u64_at(table, zone_place(i) + START)
@@ -30,13 +30,13 @@ fn zone_start(table: &[u8], i: usize) -> u64
 
 // The zone with index i.
 fn zone_shown(table: &[u8], i: usize) -> ZoneShown
-    requires { ⌜ i < 8 ⌝ }
+    requires { ⌜ (i < 8) × (tableSize ≤ length (now table)) ⌝ }
     ensures { λ r. ⌜ r ≡ shownAt (now (table .entry)) (zonePlace i) ⌝ }
 {
     let at = zone_place(i);
     let offset = i32_at(table, at);
     let valid_at = u64_at(table, at + START);
-    if u8_at(table, at + MARK) == 0 {
+    if table[at + MARK] == 0 {
         return ZoneShown {
             offset,
             valid_at,
@@ -45,7 +45,7 @@ fn zone_shown(table: &[u8], i: usize) -> ZoneShown
             name_len: 0,
         };
     }
-    let name_len = least(u8_at(table, at + NAME_LENGTH) as usize, MOST_NAME);
+    let name_len = least(table[at + NAME_LENGTH] as usize, MOST_NAME);
     ZoneShown {
         offset,
         valid_at,

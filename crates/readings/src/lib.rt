@@ -2,7 +2,7 @@
 // stays as it was. A value that may be missing has a mark beside it, and is 0 where it is missing. Lists are read in the image's table.
 pub mod clock;
 pub mod entries;
-pub mod numbers;
+pub mod store;
 pub mod transitions;
 
 ghost use mathlib.Core.Path.{_≡_};

@@ -100,7 +100,7 @@ pub extern "C" fn timesync_replay(
 {
     let mut table = [0u8; SIZE];
     match table::new(&mut table, zone_limit, window_limit) {
-        Verdict::TurnedDown(cause) => model::refusal_number(cause) as u64,
+        Verdict::TurnedDown(cause) => numbers::refusal_number(cause) as u64,
         Verdict::Accepted => {
             if history::is_history(history) {
                 calls::through(&mut table, history);

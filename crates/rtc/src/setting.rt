@@ -128,14 +128,14 @@ fn stepped(granularity: TimeGranularity) -> TimeGranularity
 fn same_granularity(a: TimeGranularity, b: TimeGranularity) -> bool
     ensures { λ r. ⌜ r ≡ eqb (granularityNumber a) (granularityNumber b) ⌝ }
 {
-    model::granularity_number(a) == model::granularity_number(b)
+    numbers::granularity_number(a) == numbers::granularity_number(b)
 }
 
 // Whether two time sources have the same number.
 fn same_time_source(a: TimeSource, b: TimeSource) -> bool
     ensures { λ r. ⌜ r ≡ eqb (sourceNumber a) (sourceNumber b) ⌝ }
 {
-    model::source_number(a) == model::source_number(b)
+    numbers::source_number(a) == numbers::source_number(b)
 }
 
 // The difference of two moments, whichever is the later.

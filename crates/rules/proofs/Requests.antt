@@ -25,7 +25,7 @@ use Rattle.record.proofs.Meaning.{whole-is, section-read, record-means}
 use Rattle.rules.specs.declared.Verdict as D
 use Rattle.rules.specs.declared.Verdict.the-variants as Said
 use Rattle.rules.specs.Verdicts.{verdictOf, listVerdict, recordTested}
-use Rattle.rules.specs.Entries.{EntriesTested, ZonesTested, WindowsTested}
+use Rattle.rules.specs.Entries.{Readable, EntriesTested, ZonesTested, WindowsTested}
 use Rattle.rules.proofs.Walk.{Kind}
 
 -- ## A request
@@ -35,13 +35,19 @@ module _ {A K : Type 0} (k : Kind A K) (s : List ℕ) (limit : ℕ) where
   unreadable none e = refl
   unreadable (some xs) e = let z : _≡_ {A = ℕ} 0 1 = cc in absurd (omega arith)
 
-  pub readable : (f : Option (List A)) → whole (readSection (k .readOne) s) ≡ f → (count len : ℕ) → requestFound (length s) f ≡ S.Entries count len
-      → (v : D.Verdict) → EntriesTested (k .readOne) (k .rule) s 1 count limit v → v ≡ verdictOf (listVerdict limit (k .rule) f)
-  readable none h count len e v t = let z : _≡_ {A = ℕ} 0 1 = cc in absurd (omega arith)
-  readable (some xs) h count len e v t =
+  -- the entries of a request that was read
+  pub entries-there : (f : Option (List A)) → whole (readSection (k .readOne) s) ≡ f → (count len : ℕ) → requestFound (length s) f ≡ S.Entries count len → Readable (k .readOne) s 1 count
+  entries-there none h count len e = let z : _≡_ {A = ℕ} 0 1 = cc in absurd (omega arith)
+  entries-there (some xs) h count len e =
       let c = section-read (k .readOne) (k .leaves) s 0 xs [] (whole-is (readSection (k .readOne) s) xs h) in
       let n : length xs ≡ count = cc in
-      t xs [] (c .there) (ap (λ (m : ℕ). readAll (k .readOne) m (drop 1 s)) (sym n) ∙ c .entries)
+      record { entries = xs; left = []; within = c .there; read = ap (λ (m : ℕ). readAll (k .readOne) m (drop 1 s)) (sym n) ∙ c .entries }
+
+  pub readable : (f : Option (List A)) → whole (readSection (k .readOne) s) ≡ f → (count len : ℕ) → requestFound (length s) f ≡ S.Entries count len
+      → (v : D.Verdict) → EntriesTested (k .readOne) (k .rule) s 1 count limit v → v ≡ verdictOf (listVerdict limit (k .rule) f)
+  unfolding entries-there
+  readable none h count len e v t = let z : _≡_ {A = ℕ} 0 1 = cc in absurd (omega arith)
+  readable (some xs) h count len e v t = t (entries-there (some xs) h count len e)
 
 -- ## A record
 
@@ -67,6 +73,49 @@ module _ (s : List ℕ) (z at w : ℕ) where
   pub second-there : recordAt s ≡ R.Sections z at w → at < length s
   unfolding recordAt
   second-there e = first-in (zonesAt s 0) e
+
+-- the entries of both sections
+module _ (s : List ℕ) (z at w : ℕ) (e : recordAt s ≡ R.Sections z at w) where
+  module _ (l : Lists) (h : readRecord s ≡ some l) where
+    zones-read : Readable readZone s 1 z
+    zones-read =
+        let m = record-means s .readable l h in
+        let a = m .answer in
+        let n : length (l .zones) ≡ z = cc in
+        record {
+          entries = l .zones;
+          left = drop (m .at) s;
+          within = omega (arith, second-there s z at w e);
+          read = ap (λ (i : ℕ). readAll readZone i (drop 1 s)) (sym n) ∙ m .zones;
+        }
+
+    windows-read : Readable readWindow s (at + 1) w
+    windows-read =
+        let m = record-means s .readable l h in
+        let a = m .answer in
+        let n : length (l .windows) ≡ w = cc in
+        let p : m .at ≡ at = cc in
+        record {
+          entries = l .windows;
+          left = [];
+          within = omega (arith, second-there s z at w e);
+          read = ap (λ (i : ℕ). readAll readWindow i (drop (at + 1) s)) (sym n) ∙ ap (λ (i : ℕ). readAll readWindow (length (l .windows)) (drop (i + 1) s)) (sym p) ∙ m .windows;
+        }
+
+  by-lists : {C : Type 0} → ((l : Lists) → readRecord s ≡ some l → C) → C
+  by-lists {C} go = by (readRecord s) refl
+    where
+      by : (f : Option Lists) → readRecord s ≡ f → C
+      by none h =
+          let a = record-means s .unreadable h in
+          let y : _≡_ {A = ℕ} 0 1 = cc in absurd (omega arith)
+      by (some l) h = go l h
+
+  pub zones-there : Readable readZone s 1 z
+  zones-there = by-lists zones-read
+
+  pub windows-there : Readable readWindow s (at + 1) w
+  windows-there = by-lists windows-read
 
 -- whatever the cause, a bad record
 abbrev pub badOf : D.Verdict → D.Verdict
@@ -106,12 +155,8 @@ module _ (s : List ℕ) (zoneLimit windowLimit : ℕ) where
 
   module _ (z at w : ℕ) (e : recordAt s ≡ R.Sections z at w) (zv : D.Verdict) (zt : ZonesTested s 1 z zoneLimit zv) where
     zones-said : (l : Lists) → readRecord s ≡ some l → zv ≡ verdictOf (testZones rules (l .zones))
-    unfolding testZones
-    zones-said l h =
-        let m = record-means s .readable l h in
-        let a = m .answer in
-        let n : length (l .zones) ≡ z = cc in
-        zt (l .zones) (drop (m .at) s) (omega (arith, second-there s z at w e)) (ap (λ (i : ℕ). readAll readZone i (drop 1 s)) (sym n) ∙ m .zones)
+    unfolding testZones zones-read
+    zones-said l h = zt (zones-read s z at w e l h)
 
     pub zones-refuse : (cause : Refusal) → zv ≡ Said.TurnedDown cause → Said.TurnedDown BadRecord ≡ said
     zones-refuse cause v = by-read _ go
@@ -122,14 +167,8 @@ module _ (s : List ℕ) (zoneLimit windowLimit : ℕ) where
 
     module _ (v : zv ≡ Said.Accepted) (wv : D.Verdict) (wt : WindowsTested s (at + 1) w windowLimit wv) where
       windows-said : (l : Lists) → readRecord s ≡ some l → wv ≡ verdictOf (testWindows rules (l .windows))
-      unfolding testWindows
-      windows-said l h =
-          let m = record-means s .readable l h in
-          let a = m .answer in
-          let n : length (l .windows) ≡ w = cc in
-          let p : m .at ≡ at = cc in
-          wt (l .windows) [] (omega (arith, second-there s z at w e))
-          (ap (λ (i : ℕ). readAll readWindow i (drop (at + 1) s)) (sym n) ∙ ap (λ (i : ℕ). readAll readWindow (length (l .windows)) (drop (i + 1) s)) (sym p) ∙ m .windows)
+      unfolding testWindows windows-read
+      windows-said l h = wt (windows-read s z at w e l h)
 
       pub windows-decide : badOf wv ≡ said
       windows-decide = by-read _ go

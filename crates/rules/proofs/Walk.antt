@@ -16,7 +16,7 @@ use Rattle.record.proofs.Meaning.{First, first-read}
 use Rattle.rules.specs.declared.Verdict as D
 use Rattle.rules.specs.declared.Verdict.the-variants as Said
 use Rattle.rules.specs.Verdicts.{verdictOf}
-use Rattle.rules.specs.Entries.{EntriesTested}
+use Rattle.rules.specs.Entries.{Readable, EntriesTested}
 
 -- the verdict by one test
 abbrev pub constrained : Bool → Verdict
@@ -45,11 +45,8 @@ module _ {A K : Type 0} (k : Kind A K) where
   pub record Ahead (s : List ℕ) (n limit : ℕ) (xs : List A) (at index : ℕ) (kept : K) : Type 0 where
     pub before : Option A
     pub known : k .keep before ≡ kept
-    pub rest : List A
-    pub left : List ℕ
-    pub within : at ≤ length s
-    pub read : readAll (k .readOne) (n - index) (drop at s) ≡ some (rest, left)
-    pub same : testFrom limit (k .rule) 0 none xs ≡ testFrom limit (k .rule) index before rest
+    pub rest : Readable (k .readOne) s at (n - index)
+    pub same : testFrom limit (k .rule) 0 none xs ≡ testFrom limit (k .rule) index before (rest .entries)
 
   module _ (s : List ℕ) (n limit : ℕ) (xs : List A) (at index : ℕ) (kept : K) (a : Ahead s n limit xs at index kept) where
     abbrev all : Verdict
@@ -59,16 +56,18 @@ module _ {A K : Type 0} (k : Kind A K) where
     unfolding testFrom readAll
     none-left h =
         let e : n - index ≡ 0 = omega arith in
-        let r : _≡_ {A = Front (List A)} (some ([], drop at s)) (some (a .rest, a .left)) = ap (λ (m : ℕ). readAll (k .readOne) m (drop at s)) (sym e) ∙ a .read in
-        let q : _≡_ {A = List A × List ℕ} ([], drop at s) (a .rest, a .left) = cc in
+        let l = a .rest in
+        let r : _≡_ {A = Front (List A)} (some ([], drop at s)) (some (l .entries, l .left)) = ap (λ (m : ℕ). readAll (k .readOne) m (drop at s)) (sym e) ∙ l .read in
+        let q : _≡_ {A = List A × List ℕ} ([], drop at s) (l .entries, l .left) = cc in
         a .same ∙ ap (λ (p : List A × List ℕ). testFrom limit (k .rule) index (a .before) (p .0)) (sym q)
 
     module _ (h : index < n) where
       -- the entry at `at`, and those behind it
-      first : First (k .readOne) (k .leaves) s at (n - (index + 1)) (a .rest) (a .left)
+      first : First (k .readOne) (k .leaves) s at (n - (index + 1)) (a .rest .entries) (a .rest .left)
       first =
           let e : n - index ≡ suc (n - (index + 1)) = omega arith in
-          first-read (k .readOne) (k .leaves) s at (n - (index + 1)) (a .rest) (a .left) (a .within) (ap (λ (m : ℕ). readAll (k .readOne) m (drop at s)) (sym e) ∙ a .read)
+          let l = a .rest in
+          first-read (k .readOne) (k .leaves) s at (n - (index + 1)) (l .entries) (l .left) (l .within) (ap (λ (m : ℕ). readAll (k .readOne) m (drop at s)) (sym e) ∙ l .read)
 
       decided : all ≡ demand (not (eqb index limit)) ResourceExhausted (andThen (k .rule index (a .before) (first .head)) (testFrom limit (k .rule) (suc index) (some (first .head)) (first .tail)))
       unfolding testFrom
@@ -110,22 +109,30 @@ module _ {A K : Type 0} (k : Kind A K) where
               record {
                 before = some (first .head);
                 known = ap (λ (y : Seen K). y .kept) is;
-                rest = first .tail;
-                left = a .left;
-                within = rw (← e₂) (first .within);
-                read = ap (λ (m : ℕ). readAll (k .readOne) (n - (index + 1)) (drop m s)) (sym e₂) ∙ first .rest;
+                rest =
+                    record {
+                      entries = first .tail;
+                      left = a .rest .left;
+                      within = rw (← e₂) (first .within);
+                      read = ap (λ (m : ℕ). readAll (k .readOne) (n - (index + 1)) (drop m s)) (sym e₂) ∙ first .rest;
+                    };
                 same = decided ∙ rw (ne-eqb index limit l, ruled true p) (ap (λ (m : ℕ). testFrom limit (k .rule) m (some (first .head)) (first .tail)) e₁);
               }
 
-  -- ## A section from `from` on, where its entries are readable
+  -- ## A section from `from` on
 
   abbrev pub Walked : List ℕ → ℕ → ℕ → ℕ → ℕ → ℕ → K → Type 0
-  Walked s from n limit at index kept = (xs : List A) (t : List ℕ) → from ≤ length s → readAll (k .readOne) n (drop from s) ≡ some (xs, t) → Ahead s n limit xs at index kept
+  Walked s from n limit at index kept = (r : Readable (k .readOne) s from n) → Ahead s n limit (r .entries) at index kept
 
   pub begins : (s : List ℕ) (from n limit : ℕ) → Walked s from n limit from 0 (k .keep none)
-  begins s from n limit xs t h r =
+  begins s from n limit r =
       let e : n - 0 ≡ n = omega arith in
-      record { before = none; known = refl; rest = xs; left = t; within = h; read = ap (λ (m : ℕ). readAll (k .readOne) m (drop from s)) e ∙ r; same = refl }
+      record {
+        before = none;
+        known = refl;
+        rest = record { entries = r .entries; left = r .left; within = r .within; read = ap (λ (m : ℕ). readAll (k .readOne) m (drop from s)) e ∙ r .read };
+        same = refl;
+      }
 
   -- where the loop stands
   pub record Here : Type 0 where
@@ -143,21 +150,24 @@ module _ {A K : Type 0} (k : Kind A K) where
     Result v = EntriesTested (k .readOne) (k .rule) (c .s) (c .from) (c .n) (c .limit) v
 
     pub ends : c .n ≤ c .index → Result Said.Accepted
-    ends h xs t f r = sym (ap verdictOf (none-left (c .s) (c .n) (c .limit) xs (c .at) (c .index) (c .kept) (c .walked xs t f r) h))
+    ends h r = sym (ap verdictOf (none-left (c .s) (c .n) (c .limit) (r .entries) (c .at) (c .index) (c .kept) (c .walked r) h))
 
     module _ (h : c .index < c .n) where
       pub full : c .index ≡ c .limit → Result (Said.TurnedDown ResourceExhausted)
-      full e xs t f r = sym (ap verdictOf (at-limit (c .s) (c .n) (c .limit) xs (c .at) (c .index) (c .kept) (c .walked xs t f r) h e))
+      full e r = sym (ap verdictOf (at-limit (c .s) (c .n) (c .limit) (r .entries) (c .at) (c .index) (c .kept) (c .walked r) h e))
 
       -- a readable entry is seen
-      pub unread : (v : D.Verdict) → k .sees (c .s) (c .at) ≡ none → Result v
-      unread v u xs t f r =
-          let j = seen-is (c .s) (c .n) (c .limit) xs (c .at) (c .index) (c .kept) (c .walked xs t f r) h in
+      pub there : Readable (k .readOne) (c .s) (c .from) (c .n) → k .sees (c .s) (c .at) ≡ none → ⊥
+      there r u =
+          let j = seen-is (c .s) (c .n) (c .limit) (r .entries) (c .at) (c .index) (c .kept) (c .walked r) h in
           let z : _≡_ {A = ℕ} 0 1 = cc in absurd (omega arith)
+
+      pub unread : (v : D.Verdict) → k .sees (c .s) (c .at) ≡ none → Result v
+      unread v u r = absurd (there r u)
 
       module _ (q : Seen K) (e : k .sees (c .s) (c .at) ≡ some q) (l : c .index ≡ c .limit → ⊥) where
         pub refuses : q .passes (c .index) (c .kept) ≡ false → Result (Said.TurnedDown ConstraintError)
-        refuses p xs t f r = sym (ap verdictOf (turned-down (c .s) (c .n) (c .limit) xs (c .at) (c .index) (c .kept) (c .walked xs t f r) h q e l p))
+        refuses p r = sym (ap verdictOf (turned-down (c .s) (c .n) (c .limit) (r .entries) (c .at) (c .index) (c .kept) (c .walked r) h q e l p))
 
         pub goes-on : q .passes (c .index) (c .kept) ≡ true → Walked (c .s) (c .from) (c .n) (c .limit) (q .after) (c .index + 1) (q .kept)
-        goes-on p xs t f r = ahead (c .s) (c .n) (c .limit) xs (c .at) (c .index) (c .kept) (c .walked xs t f r) h q e l p
+        goes-on p r = ahead (c .s) (c .n) (c .limit) (r .entries) (c .at) (c .index) (c .kept) (c .walked r) h q e l p

@@ -1,4 +1,5 @@
 // Which list requests and stored records are accepted, straight from their bytes.
+mod held;
 mod windows;
 mod zones;
 

@@ -1,8 +1,17 @@
 // The windows of a section, tested one after another.
 ghost use mathlib.Core.Path.{_≡_};
+ghost use Rattle.model.specs.Bytes.{readWindow};
+ghost use Rattle.record.specs.Fronts.{windowAt};
 ghost use Rattle.rules.specs.Numbers.{follows, belowEnd, windowPasses};
-ghost use Rattle.rules.specs.Entries.{WindowsTested};
+ghost use Rattle.rules.specs.Entries.{Readable, WindowThere, WindowsTested};
 use crate::Verdict;
+use crate::held::END;
+use crate::held::HEAD_SIZE;
+use crate::held::MARK;
+use crate::held::SIZE_WITH_END;
+use crate::held::START;
+use crate::held::i32_at;
+use crate::held::u64_at;
 use model::MaybeU64;
 use model::Refusal;
 use record::DSTOffsetRead;
@@ -51,8 +60,23 @@ fn passes(before: Before, start: u64, until: MaybeU64) -> bool
     below_its_end(start, until)
 }
 
-// What SetDSTOffset says of the n windows from `at` on, where they are readable.
+// The window at `at`, where it is readable: nothing is tested again.
+fn window_there(s: &[u8], at: usize) -> DSTOffsetRead
+    requires { ⌜ WindowThere (now s) at ⌝ }
+    ensures { λ r. ⌜ r ≡ windowAt (now (s .entry)) at ⌝ }
+{
+    let offset = i32_at(s, at);
+    let start = u64_at(s, at + START);
+    if s[at + MARK] == 0 {
+        return DSTOffsetRead::Entry(offset, start, MaybeU64::Nothing, at + HEAD_SIZE);
+    }
+    let end = u64_at(s, at + END);
+    DSTOffsetRead::Entry(offset, start, MaybeU64::Is(end), at + SIZE_WITH_END)
+}
+
+// What SetDSTOffset says of the n windows from `at` on, which are readable.
 pub(crate) fn tested(s: &[u8], at: usize, n: usize, limit: usize) -> Verdict
+    requires { ⌜ Readable readWindow (now s) at n ⌝ }
     ensures { λ r. ⌜ WindowsTested (now (s .entry)) at n limit r ⌝ }
 {
     let mut next = at;
@@ -62,7 +86,7 @@ pub(crate) fn tested(s: &[u8], at: usize, n: usize, limit: usize) -> Verdict
         if index == limit {
             return Verdict::TurnedDown(Refusal::ResourceExhausted);
         }
-        match record::read::dst_offset_at(s, next) {
+        match window_there(s, next) {
             DSTOffsetRead::Unreadable => return Verdict::TurnedDown(Refusal::Unreadable),
             DSTOffsetRead::Entry(_, start, until, after) => {
                 if !passes(before, start, until) {

@@ -1,9 +1,18 @@
 // The zones of a section, tested one after another.
 ghost use mathlib.Core.Path.{_≡_};
+ghost use Rattle.model.specs.Bytes.{readZone};
 ghost use Rattle.model.specs.Rules.{offsetInRange};
+ghost use Rattle.record.specs.Fronts.{zoneAt};
 ghost use Rattle.rules.specs.Numbers.{zeroAtFirst, above, lengthFits, zonePasses};
-ghost use Rattle.rules.specs.Entries.{ZonesTested};
+ghost use Rattle.rules.specs.Entries.{Readable, ZoneThere, ZonesTested};
 use crate::Verdict;
+use crate::held::HEAD_SIZE;
+use crate::held::MARK;
+use crate::held::NAME;
+use crate::held::NAME_LENGTH;
+use crate::held::START;
+use crate::held::i32_at;
+use crate::held::u64_at;
 use model::MaybeU64;
 use model::Refusal;
 use record::NamePlace;
@@ -65,8 +74,23 @@ fn passes(index: usize, before: MaybeU64, offset: i32, start: u64, name: NamePla
     name_fits(name)
 }
 
-// What SetTimeZone says of the n zones from `at` on, where they are readable.
+// The zone at `at`, where it is readable: nothing is tested again.
+fn zone_there(s: &[u8], at: usize) -> TimeZoneRead
+    requires { ⌜ ZoneThere (now s) at ⌝ }
+    ensures { λ r. ⌜ r ≡ zoneAt (now (s .entry)) at ⌝ }
+{
+    let offset = i32_at(s, at);
+    let start = u64_at(s, at + START);
+    if s[at + MARK] == 0 {
+        return TimeZoneRead::Entry(offset, start, NamePlace::Nothing, at + HEAD_SIZE);
+    }
+    let n = s[at + NAME_LENGTH] as usize;
+    TimeZoneRead::Entry(offset, start, NamePlace::At(at + NAME, n), at + NAME + n)
+}
+
+// What SetTimeZone says of the n zones from `at` on, which are readable.
 pub(crate) fn tested(s: &[u8], at: usize, n: usize, limit: usize) -> Verdict
+    requires { ⌜ Readable readZone (now s) at n ⌝ }
     ensures { λ r. ⌜ ZonesTested (now (s .entry)) at n limit r ⌝ }
 {
     let mut next = at;
@@ -76,7 +100,7 @@ pub(crate) fn tested(s: &[u8], at: usize, n: usize, limit: usize) -> Verdict
         if index == limit {
             return Verdict::TurnedDown(Refusal::ResourceExhausted);
         }
-        match record::read::time_zone_at(s, next) {
+        match zone_there(s, next) {
             TimeZoneRead::Unreadable => return Verdict::TurnedDown(Refusal::Unreadable),
             TimeZoneRead::Entry(offset, start, name, after) => {
                 if !passes(index, before, offset, start, name) {

@@ -5,11 +5,12 @@ use mathlib.Core.Option.{none, some}
 use mathlib.Core.Path.{_≡_}
 use Prim.Native.Nat.{ℕ, zero, suc, _+_, _*_, _≤_, min}
 use native.Mathlib.Omega.{arith}
-use lib.ListN.{length, drop, length-append, length-take}
+use lib.ListN.{length, drop, length-append, length-take, length-drop}
 use Rattle.model.specs.Bytes.{bytes, bitsOf, signed, nameBytes, untilBytes, zoneBytes, windowBytes, allBytes, zonesBytes, windowsBytes, recordBytes}
 use Rattle.model.proofs.Words.{length-bytes}
 use Rattle.word.specs.Place.{byteAt, wordAt}
-use Rattle.table.specs.Layout.{markAt, nameAt, zoneAt, windowAt, zonePlace, windowPlace, entriesFrom, zoneCount, windowCount, zonesIn, windowsIn, listsIn}
+use Rattle.table.specs.Layout.{markAt, nameAt, zoneAt, windowAt, zoneCountPlace, windowCountPlace, zonePlace, windowPlace, entriesFrom, zoneCount, windowCount, zonesIn, windowsIn, listsIn}
+use Rattle.table.proofs.Counts.{count-most}
 use Rattle.table.proofs.Parts.{entry-long, mark-clear, mark-set}
 
 pub zone-most : (s : List ℕ) (p : ℕ) → length (zoneBytes (zoneAt s p)) ≤ 78
@@ -38,7 +39,9 @@ record-most s =
       arith,
       length-append (zonesBytes (zonesIn s)) (windowsBytes (windowsIn s)),
       all-most (λ i. zoneAt s (zonePlace i)) zoneBytes 78 (λ i. zone-most s (zonePlace i)) 0 (zoneCount s),
+      count-most zoneCountPlace 8 s,
       all-most (λ i. windowAt s (windowPlace i)) windowBytes 21 (λ i. window-most s (windowPlace i)) 0 (windowCount s),
+      count-most windowCountPlace 16 s,
     )
 
 -- how many bytes a zone has, by its mark
@@ -51,5 +54,6 @@ module _ (s : List ℕ) (p m : ℕ) (e : m ≡ byteAt s (p + 12)) where
   named-long z =
       rw (mark-set s (p + 12) m e z) (omega (arith, entry-long (bitsOf (signed (wordAt 4 s p))) (wordAt 8 s (p + 4)) (nameBytes (some (nameAt s p)))))
 
-pub name-most : (s : List ℕ) (p : ℕ) → length (nameAt s p) ≤ 64
-name-most s p = omega (arith, length-take (min (byteAt s (p + 13)) 64) (drop (p + 14) s))
+-- all of a name stands in a table
+pub name-long : (s : List ℕ) (p : ℕ) → p + 78 ≤ length s → length (nameAt s p) ≡ min (byteAt s (p + 13)) 64
+name-long s p h = omega (arith, length-take (min (byteAt s (p + 13)) 64) (drop (p + 14) s), length-drop (p + 14) s)

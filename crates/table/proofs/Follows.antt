@@ -3,10 +3,10 @@ use mathlib.Core.Bool.{Bool, true, false, cond}
 use mathlib.Core.List.{List, [], _∷_}
 use mathlib.Core.Option.{Option, none, some}
 use mathlib.Core.Path.{_≡_, refl, sym, ap, _∙_}
-use Prim.Native.Nat.{ℕ, suc, _+_, _≤_, _<_, min}
+use Prim.Native.Nat.{ℕ, suc, _+_, _≤_, _<_}
 use native.Mathlib.Omega.{arith}
 use borrow.Author.Tests.{leb-true}
-use lib.Dec.{lit<}
+use lib.Dec.{leb, lit<}
 use lib.ListN.{length, getD}
 use Rattle.model.specs.declared.Refusal.{Refusal}
 use Rattle.model.specs.declared.Refusal.the-variants as R
@@ -26,7 +26,7 @@ use Rattle.rules.specs.declared.Verdict.the-variants as Said
 use Rattle.rules.specs.Verdicts.{verdictOf, recordTested}
 use Rattle.rules.proofs.Agree.{zones-are, windows-are}
 use Rattle.word.specs.Place.{byteAt}
-use Rattle.table.specs.Layout.{tableSize, zoneLimitPlace, windowLimitPlace, zoneCountPlace, windowCountPlace, generationPlace, zonePlace, windowPlace, zoneAt, windowAt, entriesFrom, zonesIn, windowsIn, listsIn, rulesIn, generationIn, storeIn, withZones, withWindows, withLists, counted, newBytes, newTable}
+use Rattle.table.specs.Layout.{tableSize, zoneLimitPlace, windowLimitPlace, zoneCountPlace, windowCountPlace, generationPlace, zonePlace, windowPlace, zoneAt, windowAt, entriesFrom, countIn, zonesIn, windowsIn, listsIn, rulesIn, generationIn, storeIn, withZones, withWindows, withLists, counted, newBytes, newTable}
 use Rattle.table.specs.Left.{timeZoneSaid, dstOffsetSaid, loadSaid, zonesLeft, timeZoneLeft, empties, windowsLeft, dstOffsetLeft, listsLeft, loadLeft, resetLeft}
 use Rattle.table.specs.Laws.{NameRoom, NamesRoom, NewIsNew, TimeZoneFollows, DSTOffsetFollows, LoadFollows, ResetFollows, LengthsStay}
 use Rattle.word.proofs.Frame.{length-placed, byte-in, word-in}
@@ -256,13 +256,17 @@ reset-follows s h =
 
 -- ## A new table
 
+-- a count of 0 is 0 in any slice
+none-counted : (place most : ℕ) (t : List ℕ) → byteAt t place ≡ 0 → countIn place most t ≡ 0
+none-counted place most t e = by-test (leb tableSize (length t)) (λ k. rw k (omega arith)) (λ k. rw k)
+
 none-in : (t : List ℕ) → byteAt t zoneCountPlace ≡ 0 → zonesIn t ≡ []
 unfolding zonesIn entriesFrom
-none-in t e = ap (λ (n : ℕ). entriesFrom (λ i. zoneAt t (zonePlace i)) 0 (min n 8)) e
+none-in t e = ap (entriesFrom (λ i. zoneAt t (zonePlace i)) 0) (none-counted zoneCountPlace 8 t e)
 
 none-there : (t : List ℕ) → byteAt t windowCountPlace ≡ 0 → windowsIn t ≡ []
 unfolding windowsIn entriesFrom
-none-there t e = ap (λ (n : ℕ). entriesFrom (λ i. windowAt t (windowPlace i)) 0 (min n 16)) e
+none-there t e = ap (entriesFrom (λ i. windowAt t (windowPlace i)) 0) (none-counted windowCountPlace 16 t e)
 
 pub new-follows : NewIsNew
 unfolding newTable newBytes number

@@ -3,6 +3,7 @@ pub mod Writing
 pub mod Requests
 pub mod Raw
 pub mod Sections
+pub mod Counts
 pub mod Bounds
 pub mod Listed
 pub mod Parts

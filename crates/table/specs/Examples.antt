@@ -20,11 +20,18 @@ no-limits : rulesIn [] ≡ record { zoneLimit = 0; windowLimit = 0 }
 no-limits = refl
 
 -- so are counts
-zones-held : zoneCount (0 ∷ 0 ∷ 9 ∷ 17 ∷ []) ≡ 8
+zones-held : zoneCount (0 ∷ 0 ∷ 9 ∷ 17 ∷ replicate 1036 0) ≡ 8
 zones-held = refl
 
-windows-held : windowCount (0 ∷ 0 ∷ 9 ∷ 17 ∷ []) ≡ 16
+windows-held : windowCount (0 ∷ 0 ∷ 9 ∷ 17 ∷ replicate 1036 0) ≡ 16
 windows-held = refl
+
+-- in a slice that is one byte too short nothing is counted
+zones-short : zoneCount (8 ∷ 16 ∷ 1 ∷ 1 ∷ replicate 1035 0) ≡ 0
+zones-short = refl
+
+windows-short : windowCount (8 ∷ 16 ∷ 1 ∷ 1 ∷ replicate 1035 0) ≡ 0
+windows-short = refl
 
 -- no count, no entry
 no-entries : listsIn (8 ∷ 16 ∷ 0 ∷ 0 ∷ []) ≡ record { zones = []; windows = [] }

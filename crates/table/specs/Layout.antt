@@ -1,5 +1,5 @@
 -- A table: 1,040 bytes that a caller lends or keeps, each part at a fixed place, numbers little endian. It is a list store: any bytes
--- in it stand for some limits, some lists and some generation.
+-- in it stand for some limits, some lists and some generation; fewer bytes hold no entry.
 --
 --   at   bytes  what
 --    0     1    zone limit, held at 8
@@ -14,7 +14,7 @@ use mathlib.Core.Bool.{Bool, not, cond}
 use mathlib.Core.List.{List, [], _∷_}
 use mathlib.Core.Option.{Option, none, some}
 use Prim.Native.Nat.{ℕ, zero, suc, _+_, _*_, min}
-use lib.Dec.{eqb}
+use lib.Dec.{eqb, leb}
 use lib.ListN.{length, take, drop, replicate}
 use Rattle.model.specs.Lists.{Name, Zone, Window, Lists}
 use Rattle.model.specs.Bytes.{bytes, signed, zoneBytes, windowBytes}
@@ -87,12 +87,15 @@ module _ {A : Type 0} where
 
 -- ## What a table stands for
 
--- how many zones and windows are there; no more than there are places
+-- how many entries a count says: no more than there are places, and none in a slice that is shorter than a table
+abbrev pub countIn : ℕ → ℕ → List ℕ → ℕ
+countIn place most s = cond (leb tableSize (length s)) (min (byteAt s place) most) 0
+
 abbrev pub zoneCount : List ℕ → ℕ
-zoneCount s = min (byteAt s zoneCountPlace) 8
+zoneCount s = countIn zoneCountPlace 8 s
 
 abbrev pub windowCount : List ℕ → ℕ
-windowCount s = min (byteAt s windowCountPlace) 16
+windowCount s = countIn windowCountPlace 16 s
 
 -- the lists
 unfoldable pub zonesIn : List ℕ → List Zone

@@ -3,7 +3,7 @@ ghost use mathlib.Core.Path.{_≡_};
 ghost use Prim.Native.Nat.{_<_, _≤_};
 ghost use lib.ListN.{length, replicate};
 ghost use Rattle.word.specs.Place.{put};
-ghost use Rattle.table.specs.Layout.{zoneCount, windowCount, zoneLimitIn, windowLimitIn, generationIn, zonePlace, windowPlace, counted, zoneCountPlace, newTable};
+ghost use Rattle.table.specs.Layout.{countIn, zoneCount, windowCount, zoneLimitIn, windowLimitIn, generationIn, zonePlace, windowPlace, counted, zoneCountPlace, newTable};
 use word::least;
 use word::or_zero::u8_at;
 
@@ -49,18 +49,29 @@ pub const NAME: usize = 14;
 // The longest name.
 pub const MOST_NAME: usize = 64;
 
+// How many entries the count at `at` says: at most so many, and none in a slice that is shorter than a table.
+fn count_at(table: &[u8], at: usize, most: usize) -> usize
+    requires { ⌜ at < 16 ⌝ }
+    ensures { λ r. ⌜ r ≡ countIn at most (now (table .entry)) ⌝ }
+{
+    if table.len() < SIZE {
+        return 0;
+    }
+    least(table[at] as usize, most)
+}
+
 // How many zones there are.
 pub fn zone_count(table: &[u8]) -> usize
     ensures { λ r. ⌜ r ≡ zoneCount (now (table .entry)) ⌝ }
 {
-    least(u8_at(table, ZONE_COUNT) as usize, MOST_ZONES)
+    count_at(table, ZONE_COUNT, MOST_ZONES)
 }
 
 // How many windows there are.
 pub fn window_count(table: &[u8]) -> usize
     ensures { λ r. ⌜ r ≡ windowCount (now (table .entry)) ⌝ }
 {
-    least(u8_at(table, WINDOW_COUNT) as usize, MOST_WINDOWS)
+    count_at(table, WINDOW_COUNT, MOST_WINDOWS)
 }
 
 // How many zones the store takes.

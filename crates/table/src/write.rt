@@ -8,7 +8,7 @@ ghost use Rattle.model.specs.Lists.{empty};
 ghost use Rattle.model.specs.Bytes.{zoneBytes, windowBytes, zonesBytes, windowsBytes, recordBytes};
 ghost use Rattle.word.specs.Place.{put};
 ghost use Rattle.record.specs.Written.{recordOf};
-ghost use Rattle.table.specs.Layout.{markAt, nameAt, zoneAt, windowAt, zonePlace, zonesIn, windowsIn, listsIn, tableSize};
+ghost use Rattle.table.specs.Layout.{markAt, zoneAt, windowAt, zonePlace, zonesIn, windowsIn, listsIn, tableSize};
 ghost use Rattle.table.specs.Held.{headBytes};
 use crate::entries::ENDED;
 use crate::entries::UNMARKED;
@@ -128,28 +128,16 @@ pub fn record(table: &[u8]) -> Record
     Record { bytes: out, length }
 }
 
-// How many bytes of the name in the place `place` are there; a slice that ends there cuts it.
-fn name_length(table: &[u8], place: usize) -> usize
-    requires { ⌜ place ≤ tableSize ⌝ }
-    ensures { λ r. ⌜ r ≡ length (nameAt (now (table .entry)) place) ⌝ }
-{
-    if table.len() < place + NAME {
-        return 0;
-    }
-    let n = least(u8_at(table, place + NAME_LENGTH) as usize, MOST_NAME);
-    least(n, table.len() - (place + NAME))
-}
-
 // How many bytes the zone with index i is written as.
 fn zone_length(table: &[u8], i: usize) -> usize
-    requires { ⌜ i < 8 ⌝ }
+    requires { ⌜ (i < 8) × (tableSize ≤ length (now table)) ⌝ }
     ensures { λ r. ⌜ r ≡ length (zoneBytes (zoneAt (now (table .entry)) (zonePlace i))) ⌝ }
 {
     let place = zone_place(i);
-    if u8_at(table, place + MARK) == 0 {
+    if table[place + MARK] == 0 {
         return UNMARKED;
     }
-    NAME + name_length(table, place)
+    NAME + least(table[place + NAME_LENGTH] as usize, MOST_NAME)
 }
 
 // How many bytes the section of zones has.

@@ -253,7 +253,7 @@ impl Granularity {
     {
         match self {
             Granularity::Missing => TimeGranularity::Seconds,
-            Granularity::Number(n) => match model::granularity_of(n) {
+            Granularity::Number(n) => match numbers::granularity_of(n) {
                 GranularityRead::Is(granularity) => granularity,
                 GranularityRead::Bad => TimeGranularity::Seconds,
             },

@@ -14,7 +14,7 @@ use rtc::UtcTime;
 // The granularity of a number; a number that names none counts as the finest.
 fn granularity(n: u64) -> TimeGranularity {
     if n < 5 {
-        match model::granularity_of(n as u8) {
+        match numbers::granularity_of(n as u8) {
             GranularityRead::Is(g) => return g,
             GranularityRead::Bad => return TimeGranularity::Microseconds,
         }
@@ -87,7 +87,7 @@ pub(crate) fn lowering(row: &[u8]) {
     let r = set(7, 7, 0, own).set_utc_time(7, new, TimeSource::Admin, 9);
     let clock = r.rtc;
     let g = clock.utc_time_granularity();
-    io::print_decimal(STDOUT_FILENO, model::granularity_number(g) as u64);
+    io::print_decimal(STDOUT_FILENO, numbers::granularity_number(g) as u64);
     if r.changed {
         io::write_all(STDOUT_FILENO, b" changed");
     }
@@ -115,7 +115,7 @@ pub(crate) fn loading(row: &[u8]) {
         LoadAnswer::Done => {}
         LoadAnswer::Refused(cause) => {
             io::write_all(STDOUT_FILENO, b"refused ");
-            io::print_decimal(STDOUT_FILENO, model::refusal_number(cause) as u64);
+            io::print_decimal(STDOUT_FILENO, numbers::refusal_number(cause) as u64);
             io::write_all(STDOUT_FILENO, b", ");
         }
     }

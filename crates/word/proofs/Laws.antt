@@ -1,43 +1,15 @@
--- Numbers at a place, read and written, over the width.
-use Prim.Native.Nat.{ℕ, zero, suc, _+_, _-_, _*_, _/_, _%_, _^_, _≤_, _<_}
+-- Numbers written at a place, over the width, and a run of writes.
+use Prim.Native.Nat.{ℕ, suc, _+_, _-_, _/_, _%_, _≤_, _<_}
 use mathlib.Core.Path.{_≡_, sym, ap, _∙_}
 use mathlib.Core.List.{List, [], _∷_, _++_, append-assoc}
-use native.Mathlib.Nat.{pow-le-pow-right, lt-of-lt-of-le, add-zero, sub-zero, one-le-pow}
+use native.Mathlib.Nat.{add-zero, sub-zero}
 use native.Mathlib.Numerals.{add-one}
 use native.Mathlib.Omega.{arith}
-use lib.Dec.{lit<}
 use lib.ListN.{length, take, drop, getD, set, length-append, length-drop}
-use lib.Seq.{set-split, append-snoc, drop-cons, getD-drop, drop-drop, take-length, take-at, drop-at, length-take-le, paste, paste-zero, paste-suc, length-paste}
-use Rattle.model.specs.Bytes.{number, bytes}
+use lib.Seq.{set-split, append-snoc, getD-drop, drop-drop, take-length, take-at, drop-at, length-take-le, paste, paste-zero, paste-suc, length-paste}
+use Rattle.model.specs.Bytes.{bytes}
 use Rattle.model.proofs.Words.{length-bytes}
 use Rattle.word.specs.Place.{put}
-
--- one byte more in front
-pub le-more : (s : List ℕ) (j k : ℕ) → j < length s → number (take (suc k) (drop j s)) ≡ getD s j 0 + 256 * number (take k (drop (suc j) s))
-unfolding number
-le-more s j k h = rw (drop-cons s j 0)
-
-pub take-below : (k : ℕ) (xs : List ℕ) → ((i : ℕ) → getD xs i 0 < 256) → number (take k xs) < 256 ^ k
-unfolding number
-take-below zero xs b = lit< tt
-take-below (suc k) [] b = one-le-pow (suc k) 256 (lit< tt)
-take-below (suc k) (x ∷ xs) b = omega (arith, b 0, take-below k xs (λ i. b (suc i)))
-
--- what w bytes spell fits w bytes
-pub at-below : (w : ℕ) (s : List ℕ) (at : ℕ) → ((i : ℕ) → getD s i 0 < 256) → number (take w (drop at s)) < 256 ^ w
-at-below w s at b = take-below w (drop at s) (λ i. rw getD-drop (b (at + i)))
-
--- a turn of the loop that reads, from the last byte to the first
-pub turn-get : (s : List ℕ) (at w i v : ℕ) → 0 < i → i ≤ w → at + w ≤ length s → v ≡ number (take (w - i) (drop (at + i) s))
-    → v * 256 + getD s (at + (i - 1)) 0 ≡ number (take (w - (i - 1)) (drop (at + (i - 1)) s))
-turn-get s at w i v p h l e =
-    let e₁ : w - (i - 1) ≡ suc (w - i) = omega arith in
-    let e₂ : suc (at + (i - 1)) ≡ at + i = omega arith in
-    rw e₁ (omega (arith, le-more s (at + (i - 1)) (w - i) (omega arith), ap (λ (n : ℕ). number (take (w - i) (drop n s))) e₂))
-
--- what at most k bytes spell is below 256 ^ k
-pub at-most : (k w : ℕ) (s : List ℕ) (at : ℕ) → w ≤ k → ((i : ℕ) → getD s i 0 < 256) → number (take w (drop at s)) < 256 ^ k
-at-most k w s at h b = lt-of-lt-of-le (at-below w s at b) (pow-le-pow-right (lit< tt) h)
 
 -- the loop that writes: what is written so far, and what is left of v
 pub record Sofar (out₀ : List ℕ) (at w v : ℕ) (out : List ℕ) (x i : ℕ) : Type 0 where

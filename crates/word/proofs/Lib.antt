@@ -1,6 +1,8 @@
 pub mod Laws
+pub mod Spelling
 pub mod Integers
 pub mod Rows
+pub mod Plain
 pub mod Places
 pub mod Answers
 pub mod Frame

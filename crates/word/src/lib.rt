@@ -1,16 +1,21 @@
 // Numbers at a place of a slice, little endian and in two's complement. Every function is total: a place past the end reads as missing,
 // and stores nothing.
+mod held;
 pub mod or_zero;
+pub mod spelled;
 pub mod text;
 
 ghost use mathlib.Core.Path.{_≡_};
-ghost use Prim.Native.Nat.{_+_, _≤_, _^_, _<_, min};
+ghost use Prim.Native.Nat.{_+_, _*_, _≤_, min};
 ghost use lib.ListN.{length, take, drop};
 ghost use Rattle.model.specs.Bytes.{number, bytes, bitsOf, signed};
 ghost use Rattle.model.specs.Maybe.{maybeU64, maybeI32};
 ghost use Rattle.word.specs.Place.{fitsAt, numberAt, signedAt, maybeU32, put, placed, copied};
 use model::MaybeI32;
 use model::MaybeU64;
+
+// How many bytes are tested or copied at once.
+pub(crate) const WORD: usize = 8;
 
 // A 32-bit number that may be missing.
 pub enum MaybeU32 {
@@ -28,27 +33,6 @@ pub fn in_bounds(s: &[u8], at: usize, n: usize) -> bool
     n <= s.len() - at
 }
 
-fn wide(b: u8) -> u64
-    ensures { λ r. ⌜ r ≡ b ⌝ }
-{
-    b as u64
-}
-
-// The number that the w bytes at `at` spell.
-fn get(s: &[u8], at: usize, w: usize) -> u64
-    requires { ⌜ (w ≤ 8) × (at + w ≤ length (now s)) ⌝ }
-    ensures value { λ r. ⌜ r ≡ number (take w (drop at (now (s .entry)))) ⌝ }
-    ensures below { λ r. ⌜ r < 256 ^ w ⌝ }
-{
-    let mut v: u64 = 0;
-    let mut i = w;
-    while 0 < i {
-        i -= 1;
-        v = v * 256 + wide(s[at + i]);
-    }
-    v
-}
-
 // Writes the w lowest bytes of v at `at`.
 fn set(out: &mut [u8], at: usize, w: usize, v: u64)
     requires { ⌜ at + w ≤ length (now out) ⌝ }
@@ -63,8 +47,28 @@ fn set(out: &mut [u8], at: usize, w: usize, v: u64)
     }
 }
 
-// Copies n bytes from `from` on to `at`.
-fn copy_there(out: &mut [u8], at: usize, s: &[u8], from: usize, n: usize)
+// Copies the eight bytes at `from` to `at`.
+fn copy_word(out: &mut [u8], at: usize, s: &[u8], from: usize)
+    requires { ⌜ (from + 8 ≤ length (now s)) × (at + 8 ≤ length (now out)) ⌝ }
+    ensures { λ _. ⌜ now (out .exit) ≡ put (now (out .entry)) at (take 8 (drop from (now (s .entry)))) ⌝ }
+{
+    set(out, at, WORD, held::u64_at(s, from));
+}
+
+// Copies n words of eight bytes.
+fn copy_words(out: &mut [u8], at: usize, s: &[u8], from: usize, n: usize)
+    requires { ⌜ (from + 8 * n ≤ length (now s)) × (at + 8 * n ≤ length (now out)) ⌝ }
+    ensures { λ _. ⌜ now (out .exit) ≡ put (now (out .entry)) at (take (8 * n) (drop from (now (s .entry)))) ⌝ }
+{
+    let mut i: usize = 0;
+    while i < n {
+        copy_word(out, at + WORD * i, s, from + WORD * i);
+        i += 1;
+    }
+}
+
+// Copies n bytes, one by one.
+fn copy_bytes(out: &mut [u8], at: usize, s: &[u8], from: usize, n: usize)
     requires { ⌜ (from + n ≤ length (now s)) × (at + n ≤ length (now out)) ⌝ }
     ensures { λ _. ⌜ now (out .exit) ≡ put (now (out .entry)) at (take n (drop from (now (s .entry)))) ⌝ }
 {
@@ -73,6 +77,17 @@ fn copy_there(out: &mut [u8], at: usize, s: &[u8], from: usize, n: usize)
         out[at + i] = s[from + i];
         i += 1;
     }
+}
+
+// Copies n bytes from `from` on to `at`: words, and what is left of them.
+fn copy_there(out: &mut [u8], at: usize, s: &[u8], from: usize, n: usize)
+    requires { ⌜ (from + n ≤ length (now s)) × (at + n ≤ length (now out)) ⌝ }
+    ensures { λ _. ⌜ now (out .exit) ≡ put (now (out .entry)) at (take n (drop from (now (s .entry)))) ⌝ }
+{
+    let words = n / WORD;
+    let done = WORD * words;
+    copy_words(out, at, s, from, words);
+    copy_bytes(out, at + done, s, from + done, n - done);
 }
 
 // Copies n bytes of s from `from` on to `at`, where both slices have so many; else nothing.
@@ -113,7 +128,7 @@ pub fn u64_at(s: &[u8], at: usize) -> MaybeU64
     ensures { λ r. ⌜ r ≡ maybeU64 (numberAt 8 (now (s .entry)) at) ⌝ }
 {
     if in_bounds(s, at, 8) {
-        return MaybeU64::Is(get(s, at, 8));
+        return MaybeU64::Is(held::u64_at(s, at));
     }
     MaybeU64::Nothing
 }
@@ -123,7 +138,7 @@ pub fn u32_at(s: &[u8], at: usize) -> MaybeU32
     ensures { λ r. ⌜ r ≡ maybeU32 (numberAt 4 (now (s .entry)) at) ⌝ }
 {
     if in_bounds(s, at, 4) {
-        return MaybeU32::Is(get(s, at, 4) as u32);
+        return MaybeU32::Is(held::u32_at(s, at));
     }
     MaybeU32::Nothing
 }

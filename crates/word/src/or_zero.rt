@@ -19,7 +19,7 @@ pub fn u16_at(s: &[u8], at: usize) -> u16
     ensures { λ r. ⌜ r ≡ wordAt 2 (now (s .entry)) at ⌝ }
 {
     if crate::in_bounds(s, at, 2) {
-        return crate::get(s, at, 2) as u16;
+        return crate::held::u16_at(s, at);
     }
     0
 }
@@ -29,7 +29,7 @@ pub fn u32_at(s: &[u8], at: usize) -> u32
     ensures { λ r. ⌜ r ≡ wordAt 4 (now (s .entry)) at ⌝ }
 {
     if crate::in_bounds(s, at, 4) {
-        return crate::get(s, at, 4) as u32;
+        return crate::held::u32_at(s, at);
     }
     0
 }
@@ -39,7 +39,7 @@ pub fn u64_at(s: &[u8], at: usize) -> u64
     ensures { λ r. ⌜ r ≡ wordAt 8 (now (s .entry)) at ⌝ }
 {
     if crate::in_bounds(s, at, 8) {
-        return crate::get(s, at, 8);
+        return crate::held::u64_at(s, at);
     }
     0
 }

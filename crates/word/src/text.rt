@@ -1,8 +1,16 @@
 // Well-formed UTF-8, by the table of the Unicode Standard.
+ghost use mathlib.Core.Bool.{true};
 ghost use mathlib.Core.Path.{_≡_};
+ghost use Prim.Native.Nat.{_+_, _≤_};
+ghost use lib.ListN.{length};
 ghost use Rattle.model.specs.Bytes.{wellFormed, table};
 ghost use Rattle.word.specs.Place.{textAt};
 ghost use Rattle.word.specs.Lead.{follows};
+ghost use Rattle.word.specs.Plain.{PlainFrom};
+use crate::WORD;
+
+// The highest bit of each byte of a word.
+const TOPS: u64 = 0x8080_8080_8080_8080;
 
 // What follows a first byte: `left` bytes, the first of them from `lo` to `hi` and the others from 0x80 to 0xBF.
 enum Lead {
@@ -83,8 +91,32 @@ fn start(b: u8) -> Lead
     Lead::Bad
 }
 
-// Whether s is well-formed UTF-8.
-pub fn utf8(s: &[u8]) -> bool
+// Whether the eight bytes at `at` are below 0x80.
+fn plain_at(s: &[u8], at: usize) -> bool
+    requires { ⌜ at + 8 ≤ length (now s) ⌝ }
+    ensures { λ r. ⌜ (r ≡ true → PlainFrom (now (s .entry)) at 8) ⌝ }
+{
+    crate::held::u64_at(s, at) & TOPS == 0
+}
+
+// Whether all bytes are below 0x80, eight at a time; the last eight may overlap those before them.
+fn plain(s: &[u8]) -> bool
+    requires { ⌜ 8 ≤ length (now s) ⌝ }
+    ensures { λ r. ⌜ (r ≡ true → PlainFrom (now (s .entry)) 0 (length (now (s .entry)))) ⌝ }
+{
+    let last = s.len() - WORD;
+    let mut i: usize = 0;
+    while i < last {
+        if !plain_at(s, i) {
+            return false;
+        }
+        i += WORD;
+    }
+    plain_at(s, last)
+}
+
+// Whether s is well-formed UTF-8, character by character.
+fn characters(s: &[u8]) -> bool
     ensures { λ r. ⌜ r ≡ wellFormed (now (s .entry)) ⌝ }
 {
     let mut left: u8 = 0;
@@ -120,6 +152,19 @@ pub fn utf8(s: &[u8]) -> bool
         }
     }
     left == 0
+}
+
+// Whether s is well-formed UTF-8; most names are plain.
+pub fn utf8(s: &[u8]) -> bool
+    ensures { λ r. ⌜ r ≡ wellFormed (now (s .entry)) ⌝ }
+{
+    if s.len() < WORD {
+        return characters(s);
+    }
+    if plain(s) {
+        return true;
+    }
+    characters(s)
 }
 
 // Whether n bytes stand at `at` and are well-formed UTF-8.

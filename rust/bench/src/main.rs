@@ -14,7 +14,7 @@ use std::collections::HashMap;
 use std::hint::black_box;
 use std::time::Instant;
 
-use ops::{Group, Op, Work};
+use ops::{Op, Work};
 
 /// Calls per measurement under callgrind; a multiple of how often the log is emptied
 const COUNTED: u64 = 1024;
@@ -175,11 +175,9 @@ fn table(times: &str, counts: &str) {
                 (port, rust, port / rust)
             };
             let ((pt, rt, qt), (pi, ri, qi)) = (of(&times), of(&counts));
-            let aim = match op.group {
-                Group::Reading | Group::Lookup => 2.0,
-                Group::Command | Group::Step => 5.0,
-            };
-            let mark = if qi > aim { format!("above {aim}") } else { String::new() };
+            // By the ratio as it is printed
+            let above = (qi * 10.0).round() / 10.0 > op.aim;
+            let mark = if above { format!("above {:.1}", op.aim) } else { String::new() };
             // Below a nanosecond there is only noise
             let qt = if rt < 1.0 { "-".to_string() } else { format!("{qt:.1}") };
             println!("| {} | {pt:.1} | {rt:.1} | {qt} | {pi:.0} | {ri:.0} | {qi:.1} | {mark} |", op.name);

@@ -1,48 +1,41 @@
--- `word::copy_there` meets its contract: the first `i` bytes are copied.
-use mathlib.Core.List.{List, [], _∷_, _++_}
-use mathlib.Core.Path.{_≡_, refl, sym, ap, _∙_}
-use Prim.Native.Nat.{ℕ, _+_, _-_, _≤_}
-use native.Mathlib.Numerals.{add-one}
+-- `word::copy_there` meets its contract: the words, and the bytes behind them.
+use mathlib.Core.List.{List, _++_}
+use mathlib.Core.Path.{_≡_, sym, ap, _∙_}
+use Prim.Native.Nat.{ℕ, _+_, _*_, _-_, _/_}
 use native.Mathlib.Omega.{arith}
-use lib.ListN.{length, take, drop, getD, length-drop}
-use lib.Seq.{take-suc, length-take-le, getD-drop}
-use Rattle.word.proofs.Writes.{Wrote, wrote-none, wrote-byte, wrote-as, same-length}
+use borrow.Author.Needs.{needs}
+use lib.ListN.{take, drop, length-drop}
+use lib.Seq.{take-add, drop-drop, length-take-le}
+use Rattle.word.proofs.Writes.{Wrote, wrote-put, wrote-as, same-length}
 use Rattle.word.proofs.copy_there.Statement.{statement}
 use Rattle.word.proofs.copy_there.Tie as tie
 
-abbrev Inv-loop : tie.InvT-loop
-Inv-loop out₀ at s from n i₀ out i = (i ≤ n) × Wrote out₀ at (take i (drop from s)) out
-
-abbrev μ-loop : tie.MeasureT-loop
-μ-loop out₀ at s from n i₀ out i = n - i
-
-loop-holds : tie.Need-loop-holds Inv-loop μ-loop
-loop-holds c = (omega arith, wrote-none (omega arith))
-
-kept : (c : tie.At-loop Inv-loop μ-loop) → length (c .loop .out) ≡ length (c .before .args .out .now)
-kept c = same-length (c .loop .inv .1)
-
-loop-again : tie.Need-loop-again Inv-loop μ-loop
-loop-again c =
-    let l = c .before .before in
-    let a = l .before .args in
-    let i = l .loop .i in
-    let w = l .loop .inv .1 in
+-- what the words leave
+words : (c : tie.After-copy-words) → let a = c .before .before .before .before .args in
+    Wrote (a .out .now) (a .at) (take (8 * (a .n / 8)) (drop (a .from) (a .s .now))) (c .copy-words .last .0)
+words c =
+    let a = c .before .before .before .before .args in
     let p = drop (a .from) (a .s .now) in
-    let k = length-drop (a .from) (a .s .now) in
-    let t = length-take-le i p (omega arith) in
-    let m : take i p ++ (getD (a .s .now) (a .from + i) 0 ∷ []) ≡ take (i + 1) p
-    = sym (ap (λ (j : ℕ). take j p) (add-one i) ∙ take-suc p i 0 (omega arith) ∙ ap (λ (b : ℕ). take i p ++ (b ∷ [])) (getD-drop (a .from) (a .s .now) i 0)) in
-    (omega arith, wrote-as (wrote-byte w (getD (a .s .now) (a .from + i) 0) (a .at + i) _ (omega arith) (omega arith) refl) (take (i + 1) p) m)
+    let t = length-take-le (8 * (a .n / 8)) p (omega (arith, length-drop (a .from) (a .s .now))) in
+    record { room = omega arith; is = c .copy-words .ensures }
 
-returns : tie.Need-returns Inv-loop μ-loop
+returns : tie.Need-returns
 returns c =
-    let l = c .before in
-    let a = l .before .args in
-    let e : l .loop .i ≡ a .n = omega arith in
-    wrote-as (l .loop .inv .1) (take (a .n) (drop (a .from) (a .s .now))) (ap (λ (k : ℕ). take k (drop (a .from) (a .s .now))) e) .is
+    let b = c .before .before in
+    let w = b .before .before .before .before in
+    let a = w .before .before .before .before .args in
+    let d = 8 * (a .n / 8) in
+    let p = drop (a .from) (a .s .now) in
+    let q = drop (a .from + d) (a .s .now) in
+    let t = length-take-le d p (omega (arith, length-drop (a .from) (a .s .now))) in
+    let r = length-take-le (a .n - d) q (omega (arith, length-drop (a .from + d) (a .s .now))) in
+    let e : d + (a .n - d) ≡ a .n = omega arith in
+    let m : take d p ++ take (a .n - d) q ≡ take (a .n) p
+    = sym (ap (λ (k : ℕ). take k p) (sym e) ∙ take-add d (a .n - d) p ∙ ap (λ (l : List ℕ). take d p ++ take (a .n - d) l) (drop-drop d (a .from) (a .s .now))) in
+    wrote-as (wrote-put (words w) (take (a .n - d) q) (a .at + d) _ (omega arith) (omega arith) (b .copy-bytes .ensures)) (take (a .n) p) m .is
 
 pub copy-there-spec : {M : Type 1} → statement M
 copy-there-spec =
     tie.close
-    (tie.spec Inv-loop μ-loop loop-holds (λ c. omega arith) (λ c. omega arith) (λ c. omega arith) (λ c. omega (arith, kept (c .before .before))) (λ c. omega arith) (λ c. omega arith) loop-again (λ c. kept (c .before)) returns)
+    (tie.spec (λ c. omega arith) (λ c κs. (omega arith, omega arith)) (λ c. omega arith) (λ c. omega arith) (λ c. omega arith)
+    (λ c κs. (omega arith, omega (arith, same-length (words (c .before .before .before))))) (λ c. search needs) returns)

@@ -2,21 +2,20 @@
 use mathlib.Core.Option.{some}
 use mathlib.Core.Path.{sym, ap, _∙_}
 use borrow.Author.Needs.{needs}
-use lib.Dec.{lit≤}
 use Rattle.model.specs.Maybe.{maybeU64}
 use Rattle.word.proofs.Places.{fitting, number-is, number-none}
 use Rattle.word.proofs.u64_at.Statement.{statement}
 use Rattle.word.proofs.u64_at.Tie as tie
 
-get-requires : tie.Need-get-requires
-get-requires c κs =
+u64-at-requires : tie.Need-u64-at-requires
+u64-at-requires c κs =
     let a = c .before .before .before .args in
-    (lit≤ tt, fitting 8 (a .s .now) (a .at) (c .before .in-bounds .ensures) (c .if1 .taken))
+    fitting 8 (a .s .now) (a .at) (c .before .in-bounds .ensures) (c .if1 .taken)
 
 returns : tie.Need-returns
 returns c =
     let a = c .before .before .before .before .args in
-    ap maybeU64 (ap some (c .get .ensures .0) ∙ sym (number-is 8 (a .s .now) (a .at) (c .before .before .in-bounds .ensures) (c .before .if1 .taken)))
+    ap maybeU64 (ap some (c .u64-at .ensures) ∙ sym (number-is 8 (a .s .now) (a .at) (c .before .before .in-bounds .ensures) (c .before .if1 .taken)))
 
 returns-2 : tie.Need-returns-2
 returns-2 c =
@@ -24,4 +23,4 @@ returns-2 c =
     sym (ap maybeU64 (number-none 8 (a .s .now) (a .at) (c .before .in-bounds .ensures) (c .if1 .left)))
 
 pub u64-at-spec : {M : Type 1} → statement M
-u64-at-spec = tie.close (tie.spec (λ c κs. search needs) get-requires returns returns-2)
+u64-at-spec = tie.close (tie.spec (λ c κs. search needs) u64-at-requires returns returns-2)

@@ -41,7 +41,7 @@ fn zone_commands<const Z: usize, const W: usize>(both: &Both<Z, W>) -> Vec<Op> {
             port(both, entry::set_time_zone, section_of_zones(good)),
             logged(move || rust_set_zones(black_box(accepting), at, black_box(good))),
         ),
-        Op::command(
+        Op::refused(
             "set_time_zone, refused at the last entry",
             port(both, entry::set_time_zone, section_of_zones(bad)),
             logged(move || rust_set_zones(black_box(refusing), at, black_box(bad))),

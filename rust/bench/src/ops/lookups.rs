@@ -23,7 +23,7 @@ pub fn ops<const Z: usize, const W: usize>(both: &Both<Z, W>) -> Vec<Op> {
             both.number(move |i, a| entry::dst_usable(i, black_box(now), a)),
             side(move || rust_usable(black_box(store), black_box(now)).into()),
         ),
-        Op::lookup(
+        Op::reading(
             "dst_table_empty",
             both.number(entry::dst_table_empty),
             side(move || rust_table_empty(black_box(store)).into()),

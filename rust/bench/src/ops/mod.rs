@@ -55,17 +55,10 @@ fn logged(mut work: impl FnMut() -> u64 + 'static) -> Side {
     )
 }
 
-#[derive(Clone, Copy, PartialEq, Eq)]
-pub enum Group {
-    Reading,
-    Lookup,
-    Command,
-    Step,
-}
-
 pub struct Op {
     pub name: &'static str,
-    pub group: Group,
+    /// At most so many times the instructions of the Rust
+    pub aim: f64,
     /// Whether both sides return the same number
     pub same: bool,
     pub port: Side,
@@ -73,31 +66,36 @@ pub struct Op {
 }
 
 impl Op {
-    fn new(group: Group, name: &'static str, port: Side, rust: Side) -> Self {
-        let same = matches!(group, Group::Reading | Group::Lookup);
+    fn new(aim: f64, same: bool, name: &'static str, port: Side, rust: Side) -> Self {
         Op {
             name,
-            group,
+            aim,
             same,
             port,
             rust,
         }
     }
 
+    /// A number or two out of the image, which the Rust has in a field
     fn reading(name: &'static str, port: Side, rust: Side) -> Self {
-        Op::new(Group::Reading, name, port, rust)
+        Op::new(2.5, true, name, port, rust)
     }
 
     fn lookup(name: &'static str, port: Side, rust: Side) -> Self {
-        Op::new(Group::Lookup, name, port, rust)
+        Op::new(1.0, true, name, port, rust)
     }
 
     fn command(name: &'static str, port: Side, rust: Side) -> Self {
-        Op::new(Group::Command, name, port, rust)
+        Op::new(1.0, false, name, port, rust)
+    }
+
+    /// A request with names, which the Rust is handed decoded
+    fn refused(name: &'static str, port: Side, rust: Side) -> Self {
+        Op::new(5.0, false, name, port, rust)
     }
 
     fn step(name: &'static str, port: Side, rust: Side) -> Self {
-        Op::new(Group::Step, name, port, rust)
+        Op::new(1.0, false, name, port, rust)
     }
 }
 

@@ -38,7 +38,7 @@ fn of_the_clock<const Z: usize, const W: usize>(both: &Both<Z, W>) -> Vec<Op> {
             both.reading(|i, o| entry::trusted_time_source(i, &mut o.a, &mut o.b, &mut o.c, &mut o.d) + o.c),
             side(move || rust_trusted(black_box(rtc)).map_or(0, |s| s.node_id)),
         ),
-        Op::reading(
+        Op::lookup(
             "local_time",
             both.marked(move |i, a, b| entry::local_time(i, black_box(tick), a, b)),
             side(move || rust_local_time(black_box(handler), at)),
@@ -84,7 +84,7 @@ fn numbers<const Z: usize, const W: usize>(both: &Both<Z, W>) -> Vec<Op> {
 
 fn zone<const Z: usize, const W: usize>(both: &Both<Z, W>) -> Op {
     let (store, mut o) = (both.store, Out::new());
-    Op::reading(
+    Op::lookup(
         "time_zone, the last entry",
         both.reading(|i, o| {
             let last = black_box(Z - 1);
@@ -100,7 +100,7 @@ fn zone<const Z: usize, const W: usize>(both: &Both<Z, W>) -> Op {
 
 fn window<const Z: usize, const W: usize>(both: &Both<Z, W>) -> Op {
     let (store, mut o) = (both.store, Out::new());
-    Op::reading(
+    Op::lookup(
         "dst_offset, the last entry",
         both.reading(|i, o| entry::dst_offset(i, black_box(W - 1), &mut o.offset, &mut o.a, &mut o.b, &mut o.c) + o.c),
         side(move || {

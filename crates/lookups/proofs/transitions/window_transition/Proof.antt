@@ -9,6 +9,7 @@ use Rattle.model.specs.Lookups.{windowBounds}
 use Rattle.word.specs.Place.{wordAt}
 use Rattle.lookups.specs.Transitions.{sooner, soonest}
 use Rattle.table.specs.Layout.{windowCount, entriesFrom, windowsIn}
+use Rattle.table.proofs.Counts.{WindowStands, window-stands}
 use Rattle.lookups.proofs.Entries.{whole}
 use Rattle.lookups.proofs.Soonest.{past-window, windows-over}
 use Rattle.lookups.proofs.Views.{windowWithIndex}
@@ -29,6 +30,10 @@ loop-holds c =
     let a = c .before .before .args in
     let e = c .window-count .ensures in
     (e, omega arith, ap (λ (ws : List Window). soonest (a .utc) (a .sofar) (windowBounds ws)) (whole (windowWithIndex (a .table .now)) _ (windowCount (a .table .now)) e))
+
+-- the entry that is read stands in its place
+stands : (c : tie.In-loop Inv-loop μ-loop) → let l = c .before in WindowStands (l .before .before .before .args .table .now) (l .loop .i)
+stands c = let l = c .before in window-stands (l .before .before .before .args .table .now) (l .loop .i) (omega (arith, l .loop .inv .0))
 
 loop-again : tie.Need-loop-again Inv-loop μ-loop
 loop-again c =
@@ -51,4 +56,4 @@ returns c =
 pub window-transition-spec : {M : Type 1} → statement M
 window-transition-spec =
     tie.close
-    (tie.spec Inv-loop μ-loop (λ c κs. search needs) loop-holds (λ c κs. search needs) (λ c. search needs) (λ c κs. search needs) (λ c κs. search needs) (λ c κs. search needs) (λ c κs. search needs) (λ c. search needs) (λ c. search needs) loop-again returns)
+    (tie.spec Inv-loop μ-loop (λ c κs. search needs) loop-holds (λ c κs. stands c .0) (λ c. omega (arith, stands (c .before))) (λ c κs. omega (arith, stands (c .before))) (λ c κs. search needs) (λ c κs. stands (c .before .before .before)) (λ c κs. search needs) (λ c. search needs) (λ c. search needs) loop-again returns)

@@ -9,6 +9,7 @@ use Rattle.model.specs.Lookups.{zoneStarts}
 use Rattle.word.specs.Place.{wordAt}
 use Rattle.lookups.specs.Transitions.{sooner, soonest}
 use Rattle.table.specs.Layout.{zoneCount, entriesFrom, zonesIn}
+use Rattle.table.proofs.Counts.{ZoneStands, zone-stands}
 use Rattle.lookups.proofs.Entries.{whole}
 use Rattle.lookups.proofs.Soonest.{past-zone, zones-over}
 use Rattle.lookups.proofs.Views.{zoneWithIndex}
@@ -30,6 +31,10 @@ loop-holds c =
     let e = c .zone-count .ensures in
     (e, omega arith, ap (λ (zs : List Zone). soonest (a .utc) 0 (zoneStarts zs)) (whole (zoneWithIndex (a .table .now)) _ (zoneCount (a .table .now)) e))
 
+-- the entry that is read stands in its place
+stands : (c : tie.In-loop Inv-loop μ-loop) → let l = c .before in ZoneStands (l .before .before .before .args .table .now) (l .loop .i)
+stands c = let l = c .before in zone-stands (l .before .before .before .args .table .now) (l .loop .i) (omega (arith, l .loop .inv .0))
+
 loop-again : tie.Need-loop-again Inv-loop μ-loop
 loop-again c =
     let w = c .before .before in
@@ -49,4 +54,4 @@ returns c =
 pub zone-transition-spec : {M : Type 1} → statement M
 zone-transition-spec =
     tie.close
-    (tie.spec Inv-loop μ-loop (λ c κs. search needs) loop-holds (λ c κs. search needs) (λ c. search needs) (λ c κs. search needs) (λ c κs. search needs) (λ c. search needs) (λ c. search needs) loop-again returns)
+    (tie.spec Inv-loop μ-loop (λ c κs. search needs) loop-holds (λ c κs. stands c .0) (λ c. omega (arith, stands (c .before))) (λ c κs. omega (arith, stands (c .before))) (λ c κs. search needs) (λ c. search needs) (λ c. search needs) loop-again returns)

@@ -10,6 +10,7 @@ use Rattle.model.specs.Lists.{Window}
 use Rattle.model.specs.Lookups.{isActive, activeWindow, offsetOf, activeOffset}
 use Rattle.model.specs.Maybe.{maybeI32}
 use Rattle.table.specs.Layout.{windowCount, entriesFrom, windowsIn, listsIn}
+use Rattle.table.proofs.Counts.{WindowStands, window-stands}
 use Rattle.lookups.proofs.Entries.{whole, first-hit, first-miss, first-over}
 use Rattle.lookups.proofs.Views.{windowWithIndex}
 use Rattle.lookups.proofs.windows.active_dst_offset.Statement.{statement}
@@ -28,6 +29,10 @@ loop-holds c =
     let a = c .before .before .args in
     let e = c .window-count .ensures in
     (e, omega arith, ap (λ (ws : List Window). first (keep (isActive (a .utc)) ws)) (whole (windowWithIndex (a .table .now)) _ (windowCount (a .table .now)) e))
+
+-- the entry that is read stands in its place
+stands : (c : tie.In-loop Inv-loop μ-loop) → let l = c .before in WindowStands (l .before .before .before .args .table .now) (l .loop .i)
+stands c = let l = c .before in window-stands (l .before .before .before .args .table .now) (l .loop .i) (omega (arith, l .loop .inv .0))
 
 returns : tie.Need-returns Inv-loop μ-loop
 unfolding activeOffset
@@ -55,4 +60,4 @@ returns-2 c =
 pub active-dst-offset-spec : {M : Type 1} → statement M
 active-dst-offset-spec =
     tie.close
-    (tie.spec Inv-loop μ-loop (λ c κs. search needs) loop-holds (λ c. search needs) (λ c κs. search needs) (λ c κs. search needs) returns (λ c. search needs) loop-again returns-2)
+    (tie.spec Inv-loop μ-loop (λ c κs. search needs) loop-holds (λ c. search needs) (λ c κs. stands c) (λ c κs. stands (c .before .before)) returns (λ c. search needs) loop-again returns-2)

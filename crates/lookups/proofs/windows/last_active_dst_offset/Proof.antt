@@ -1,7 +1,7 @@
 -- `lookups::windows::last_active_dst_offset` meets its contract.
 use mathlib.Core.Option.{Option}
 use mathlib.Core.Path.{_≡_, sym, _∙_, ap}
-use Prim.Native.Nat.{ℕ, _≤_}
+use Prim.Native.Nat.{ℕ, _-_, _≤_}
 use native.Mathlib.Omega.{arith}
 use borrow.Author.Needs.{needs}
 use Rattle.model.specs.Basics.{keep, last}
@@ -9,6 +9,7 @@ use Rattle.model.specs.Lists.{Window}
 use Rattle.model.specs.Lookups.{isActive, lastActiveWindow, offsetOf}
 use Rattle.model.specs.Maybe.{maybeI32}
 use Rattle.table.specs.Layout.{windowCount, entriesFrom, windowsIn, listsIn}
+use Rattle.table.proofs.Counts.{WindowStands, window-stands}
 use Rattle.lookups.proofs.Entries.{last-hit, last-miss, last-over}
 use Rattle.lookups.proofs.Views.{windowWithIndex}
 use Rattle.lookups.proofs.windows.last_active_dst_offset.Statement.{statement}
@@ -26,6 +27,10 @@ loop-holds c =
     let a = c .before .before .args in
     let e = c .window-count .ensures in
     (omega (arith, e), ap (λ (n : ℕ). last (keep (isActive (a .utc)) (entriesFrom (windowWithIndex (a .table .now)) 0 n))) (sym e))
+
+-- the entry that is read stands in its place
+stands : (c : tie.In-loop Inv-loop μ-loop) → let l = c .before in WindowStands (l .before .before .before .args .table .now) (l .loop .i - 1)
+stands c = let l = c .before in window-stands (l .before .before .before .args .table .now) (l .loop .i - 1) (omega (arith, l .loop .inv .0))
 
 returns : tie.Need-returns Inv-loop μ-loop
 returns c =
@@ -51,4 +56,4 @@ returns-2 c =
 pub last-active-dst-offset-spec : {M : Type 1} → statement M
 last-active-dst-offset-spec =
     tie.close
-    (tie.spec Inv-loop μ-loop (λ c κs. search needs) loop-holds (λ c. search needs) (λ c κs. search needs) (λ c κs. search needs) returns (λ c. search needs) loop-again returns-2)
+    (tie.spec Inv-loop μ-loop (λ c κs. search needs) loop-holds (λ c. search needs) (λ c κs. stands c) (λ c κs. stands (c .before .before)) returns (λ c. search needs) loop-again returns-2)

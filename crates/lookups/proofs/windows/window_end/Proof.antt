@@ -1,5 +1,5 @@
 -- `lookups::windows::window_end` meets its contract.
-use mathlib.Core.Path.{_≡_, sym, _∙_, ap}
+use mathlib.Core.Path.{sym, _∙_, ap}
 use Prim.Native.Nat.{ℕ, _+_, _<_}
 use native.Mathlib.Omega.{arith}
 use borrow.Author.Needs.{needs}
@@ -16,20 +16,19 @@ returns c =
     let w = c .before .before in
     let s = w .before .before .args .table .now in
     let at = w .window-place .result in
-    let z : byteAt s (at + 12) ≡ 0 = omega (arith, c .before .u8-at .ensures) in
-    ap maybeU64 (sym (not-there s (at + 12) (at + 13) z)) ∙ ap (λ (p : ℕ). maybeU64 (windowAt s p .until)) (w .window-place .ensures)
+    ap maybeU64 (sym (not-there s (at + 12) (at + 13) (c .if1 .taken))) ∙ ap (λ (p : ℕ). maybeU64 (windowAt s p .until)) (w .window-place .ensures)
 
 returns-2 : tie.Need-returns-2
 returns-2 c =
-    let u = c .before .before in
-    let w = u .before in
+    let u = c .before in
+    let w = u .before .before in
     let s = w .before .before .args .table .now in
     let at = w .window-place .result in
-    let z : 0 < byteAt s (at + 12) = omega (arith, u .u8-at .ensures) in
+    let z : 0 < byteAt s (at + 12) = omega (arith, u .if1 .left) in
     ap MaybeU64.Is (c .u64-at .ensures) ∙ ap maybeU64 (sym (is-there s (at + 12) (at + 13) z))
     ∙ ap (λ (p : ℕ). maybeU64 (windowAt s p .until)) (w .window-place .ensures)
 
 pub window-end-spec : {M : Type 1} → statement M
 window-end-spec =
     tie.close
-    (tie.spec (λ c κs. search needs) (λ c. search needs) (λ c κs. search needs) returns (λ c. search needs) (λ c κs. search needs) returns-2)
+    (tie.spec (λ c κs. search needs) (λ c. search needs) (λ c. search needs) returns (λ c. search needs) (λ c κs. search needs) returns-2)

@@ -10,6 +10,7 @@ use lib.Dec.{leb}
 use Rattle.model.specs.Basics.{keep, last}
 use Rattle.table.specs.Layout.{zoneCount, entriesFrom}
 use Rattle.lookups.specs.Shown.{shownBy, activeIndex}
+use Rattle.table.proofs.Counts.{ZoneStands, zone-stands}
 use Rattle.lookups.proofs.Entries.{last-hit, last-miss, last-over}
 use Rattle.lookups.proofs.Views.{zoneWithIndex}
 use Rattle.lookups.proofs.zones.active_time_zone.Statement.{statement}
@@ -31,6 +32,10 @@ loop-holds c =
     let a = c .before .before .args in
     let e = c .zone-count .ensures in
     (omega (arith, e), ap (λ (n : ℕ). last (keep (begun (a .table .now) (a .utc)) (entriesFrom (λ k. k) 0 n))) (sym e))
+
+-- the entry that is read stands in its place
+stands : (c : tie.In-loop Inv-loop μ-loop) → let l = c .before in ZoneStands (l .before .before .before .args .table .now) (l .loop .i - 1)
+stands c = let l = c .before in zone-stands (l .before .before .before .args .table .now) (l .loop .i - 1) (omega (arith, l .loop .inv .0))
 
 returns : tie.Need-returns Inv-loop μ-loop
 returns c =
@@ -57,4 +62,4 @@ returns-2 c =
 pub active-time-zone-spec : {M : Type 1} → statement M
 active-time-zone-spec =
     tie.close
-    (tie.spec Inv-loop μ-loop (λ c κs. search needs) loop-holds (λ c. search needs) (λ c κs. search needs) (λ c κs. search needs) returns (λ c. search needs) loop-again (λ c κs. search needs) returns-2)
+    (tie.spec Inv-loop μ-loop (λ c κs. search needs) loop-holds (λ c. search needs) (λ c κs. stands c) (λ c κs. stands (c .before .before)) returns (λ c. search needs) loop-again (λ c κs. search needs) returns-2)

@@ -9,12 +9,19 @@ use Rattle.table.specs.Layout.{zoneCount}
 use Rattle.lookups.specs.declared.ZoneShown.{ZoneShown}
 use Rattle.lookups.specs.declared.ZoneListed.{ZoneListed}
 use Rattle.lookups.specs.Shown.{blankShown}
+use Rattle.table.proofs.Counts.{zone-stands}
 use Rattle.lookups.proofs.Views.{listed-there, listed-past}
 use Rattle.lookups.proofs.zones.time_zone_at.Statement.{statement}
 use Rattle.lookups.proofs.zones.time_zone_at.Tie as tie
 
 abbrev listing : Bool → ZoneShown → ZoneListed
 listing b z = record { there = b; zone = z }
+
+zone-shown-requires : tie.Need-zone-shown-requires
+zone-shown-requires c κs =
+    let n = c .before in
+    let a = n .before .before .args in
+    zone-stands (a .table .now) (a .i) (omega (arith, n .zone-count .ensures))
 
 returns : tie.Need-returns
 returns c =
@@ -41,4 +48,4 @@ returns-3 c =
 pub time-zone-at-spec : {M : Type 1} → statement M
 time-zone-at-spec =
     tie.close
-    (tie.spec (λ c κs. search needs) (λ c κs. search needs) (λ c κs. search needs) returns (λ c κs. search needs) returns-2 (λ c κs. search needs) returns-3)
+    (tie.spec (λ c κs. search needs) zone-shown-requires (λ c κs. search needs) returns (λ c κs. search needs) returns-2 (λ c κs. search needs) returns-3)

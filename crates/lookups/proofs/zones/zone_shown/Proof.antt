@@ -34,23 +34,25 @@ returns c =
     let at = w .zone-place .result in
     let z = i .i32-at .result in
     let back : toZ w32 (ofZ w32 z) ≡ z = search needs in
-    unnamed s at _ _ (back ∙ i .i32-at .ensures) (t .u64-at .ensures) (omega (arith, c .before .u8-at .ensures)) ∙ ap (shownAt s) (w .zone-place .ensures)
+    unnamed s at _ _ (back ∙ i .i32-at .ensures) (t .u64-at .ensures) (c .if1 .taken) ∙ ap (shownAt s) (w .zone-place .ensures)
 
 returns-2 : tie.Need-returns-2
 returns-2 c =
-    let u = c .before .before .before in
-    let t = u .before in
+    let u = c .before .before in
+    let t = u .before .before in
     let i = t .before in
     let w = i .before in
     let s = w .before .before .args .table .now in
     let at = w .zone-place .result in
     let z = i .i32-at .result in
     let back : toZ w32 (ofZ w32 z) ≡ z = search needs in
-    with-name s at _ _ (back ∙ i .i32-at .ensures) (t .u64-at .ensures) _ (omega (arith, u .u8-at .ensures))
-    (c .least .ensures ∙ ap (λ (n : ℕ). min n 64) (c .before .u8-at2 .ensures))
+    with-name s at _ _ (back ∙ i .i32-at .ensures) (t .u64-at .ensures) _ (omega (arith, u .if1 .left)) (c .least .ensures)
     ∙ ap (shownAt s) (w .zone-place .ensures)
+
+cast-least : tie.Need-cast-least
+cast-least c = omega (arith, c .shared-slice-known3 .given (c .before .before .before .before .before .zone-place .result + 13))
 
 pub zone-shown-spec : {M : Type 1} → statement M
 zone-shown-spec =
     tie.close
-    (tie.spec (λ c κs. search needs) (λ c κs. search needs) (λ c. search needs) (λ c κs. search needs) (λ c. search needs) (λ c κs. search needs) returns (λ c. search needs) (λ c κs. search needs) (λ c. search needs) (λ c κs. search needs) (λ c. search needs) returns-2)
+    (tie.spec (λ c κs. search needs) (λ c κs. search needs) (λ c. search needs) (λ c κs. search needs) (λ c. search needs) (λ c. search needs) returns (λ c. search needs) (λ c. search needs) cast-least (λ c κs. search needs) (λ c. search needs) returns-2)

@@ -4,7 +4,7 @@ use Prim.Native.Nat.{_-_}
 use native.Mathlib.Omega.{arith}
 use borrow.Author.Needs.{needs}
 use borrow.Author.Tests.{not-true, not-false}
-use Rattle.rules.proofs.Walk.{Walked, Here, begins, ends, full, unread, refuses, goes-on}
+use Rattle.rules.proofs.Walk.{Walked, Here, begins, ends, full, there, unread, refuses, goes-on}
 use Rattle.rules.proofs.Entries.{windowSeen, windows}
 use Rattle.rules.proofs.windows.tested.Statement.{statement}
 use Rattle.rules.proofs.windows.tested.Tie as tie
@@ -26,25 +26,28 @@ loop-holds c = let a = c .before .args in begins windows (a .s .now) (a .at) (a 
 returns : tie.Need-returns Inv-loop μ-loop
 returns c = full windows (here (c .before .before)) (c .before .loop-test .taken) (omega (arith, c .if1 .taken))
 
+window-there-requires : tie.Need-window-there-requires Inv-loop μ-loop
+window-there-requires c κs u = let l = c .before .before in there windows (here l) (c .before .loop-test .taken) (l .before .before .pre) (ap windowSeen u)
+
 returns-2 : tie.Need-returns-2 Inv-loop μ-loop
 returns-2 c =
     let r = c .before .before in
     let i = r .before .before in
-    unread windows (here (i .before)) (i .loop-test .taken) _ (ap windowSeen (sym (r .dst-offset-at .ensures) ∙ c .enum-told .given .1))
+    unread windows (here (i .before)) (i .loop-test .taken) _ (ap windowSeen (sym (r .window-there .ensures) ∙ c .enum-told .given .1))
 
 returns-3 : tie.Need-returns-3 Inv-loop μ-loop
 returns-3 c =
     let o = c .before .before .before in
     let r = o .before .before in
     let i = r .before .before in
-    refuses windows (here (i .before)) (i .loop-test .taken) _ (ap windowSeen (sym (r .dst-offset-at .ensures) ∙ o .start .given .1)) (λ e. omega (arith, e, r .before .if1 .left)) (sym (c .before .passes .ensures) ∙ not-true _ (c .if2 .taken))
+    refuses windows (here (i .before)) (i .loop-test .taken) _ (ap windowSeen (sym (r .window-there .ensures) ∙ o .start .given .1)) (λ e. omega (arith, e, r .before .if1 .left)) (sym (c .before .passes .ensures) ∙ not-true _ (c .if2 .taken))
 
 loop-again : tie.Need-loop-again Inv-loop μ-loop
 loop-again c =
     let o = c .before .before .before in
     let r = o .before .before in
     let i = r .before .before in
-    goes-on windows (here (i .before)) (i .loop-test .taken) _ (ap windowSeen (sym (r .dst-offset-at .ensures) ∙ o .start .given .1)) (λ e. omega (arith, e, r .before .if1 .left)) (sym (c .before .passes .ensures) ∙ not-false _ (c .if2 .left))
+    goes-on windows (here (i .before)) (i .loop-test .taken) _ (ap windowSeen (sym (r .window-there .ensures) ∙ o .start .given .1)) (λ e. omega (arith, e, r .before .if1 .left)) (sym (c .before .passes .ensures) ∙ not-false _ (c .if2 .left))
 
 returns-4 : tie.Need-returns-4 Inv-loop μ-loop
 returns-4 c = ends windows (here (c .before)) (c .loop-test .left)
@@ -52,4 +55,4 @@ returns-4 c = ends windows (here (c .before)) (c .loop-test .left)
 pub tested-spec : {M : Type 1} → statement M
 tested-spec =
     tie.close
-    (tie.spec Inv-loop μ-loop loop-holds returns (λ c κs. search needs) (λ c. search needs) returns-2 (λ c. search needs) (λ c κs. search needs) returns-3 (λ c. search needs) (λ c. omega arith) loop-again returns-4)
+    (tie.spec Inv-loop μ-loop loop-holds returns window-there-requires (λ c. search needs) returns-2 (λ c. search needs) (λ c κs. search needs) returns-3 (λ c. search needs) (λ c. omega arith) loop-again returns-4)

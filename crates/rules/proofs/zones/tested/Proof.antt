@@ -8,7 +8,7 @@ use lib.IntN.{ℤ}
 use mir.Syntax.{w32}
 use mir.Val.{toZ, ofZ}
 use Rattle.rules.specs.Numbers.{zonePasses}
-use Rattle.rules.proofs.Walk.{Walked, Here, begins, ends, full, unread, refuses, goes-on}
+use Rattle.rules.proofs.Walk.{Walked, Here, begins, ends, full, there, unread, refuses, goes-on}
 use Rattle.rules.proofs.Entries.{zoneSeen, zones}
 use Rattle.rules.proofs.zones.tested.Statement.{statement}
 use Rattle.rules.proofs.zones.tested.Tie as tie
@@ -30,11 +30,14 @@ loop-holds c = let a = c .before .args in begins zones (a .s .now) (a .at) (a .n
 returns : tie.Need-returns Inv-loop μ-loop
 returns c = full zones (here (c .before .before)) (c .before .loop-test .taken) (omega (arith, c .if1 .taken))
 
+zone-there-requires : tie.Need-zone-there-requires Inv-loop μ-loop
+zone-there-requires c κs u = let l = c .before .before in there zones (here l) (c .before .loop-test .taken) (l .before .before .pre) (ap zoneSeen u)
+
 returns-2 : tie.Need-returns-2 Inv-loop μ-loop
 returns-2 c =
     let r = c .before .before in
     let i = r .before .before in
-    unread zones (here (i .before)) (i .loop-test .taken) _ (ap zoneSeen (sym (r .time-zone-at .ensures) ∙ c .enum-told .given .1))
+    unread zones (here (i .before)) (i .loop-test .taken) _ (ap zoneSeen (sym (r .zone-there .ensures) ∙ c .enum-told .given .1))
 
 -- the offset that the rule is handed is the one that was read
 back : (c : tie.After-known-told Inv-loop μ-loop) → toZ w32 (ofZ w32 (c .before .offset .given .0 .0)) ≡ c .before .offset .given .0 .0
@@ -53,14 +56,14 @@ returns-3 c =
     let o = c .before .before .before in
     let r = o .before .before in
     let i = r .before .before in
-    refuses zones (here (i .before)) (i .loop-test .taken) _ (ap zoneSeen (sym (r .time-zone-at .ensures) ∙ o .offset .given .1)) (λ e. omega (arith, e, r .before .if1 .left)) (sym (test (c .before)) ∙ not-true _ (c .if2 .taken))
+    refuses zones (here (i .before)) (i .loop-test .taken) _ (ap zoneSeen (sym (r .zone-there .ensures) ∙ o .offset .given .1)) (λ e. omega (arith, e, r .before .if1 .left)) (sym (test (c .before)) ∙ not-true _ (c .if2 .taken))
 
 loop-again : tie.Need-loop-again Inv-loop μ-loop
 loop-again c =
     let o = c .before .before .before in
     let r = o .before .before in
     let i = r .before .before in
-    goes-on zones (here (i .before)) (i .loop-test .taken) _ (ap zoneSeen (sym (r .time-zone-at .ensures) ∙ o .offset .given .1)) (λ e. omega (arith, e, r .before .if1 .left)) (sym (test (c .before)) ∙ not-false _ (c .if2 .left))
+    goes-on zones (here (i .before)) (i .loop-test .taken) _ (ap zoneSeen (sym (r .zone-there .ensures) ∙ o .offset .given .1)) (λ e. omega (arith, e, r .before .if1 .left)) (sym (test (c .before)) ∙ not-false _ (c .if2 .left))
 
 returns-4 : tie.Need-returns-4 Inv-loop μ-loop
 returns-4 c = ends zones (here (c .before)) (c .loop-test .left)
@@ -68,4 +71,4 @@ returns-4 c = ends zones (here (c .before)) (c .loop-test .left)
 pub tested-spec : {M : Type 1} → statement M
 tested-spec =
     tie.close
-    (tie.spec Inv-loop μ-loop loop-holds returns (λ c κs. search needs) (λ c. search needs) returns-2 (λ c. search needs) (λ c κs. search needs) returns-3 (λ c. search needs) (λ c. omega arith) loop-again returns-4)
+    (tie.spec Inv-loop μ-loop loop-holds returns zone-there-requires (λ c. search needs) returns-2 (λ c. search needs) (λ c κs. search needs) returns-3 (λ c. search needs) (λ c. omega arith) loop-again returns-4)

@@ -6,7 +6,8 @@ use borrow.Author.Needs.{needs}
 use lib.ListN.{length, set, length-set}
 use Rattle.model.specs.Bytes.{zoneBytes, zonesBytes, allBytes}
 use Rattle.word.proofs.Writes as writes
-use Rattle.table.specs.Layout.{zonePlace, zoneAt, zoneCount, zonesIn}
+use Rattle.table.specs.Layout.{zoneCountPlace, zonePlace, zoneAt, zoneCount, zonesIn}
+use Rattle.table.proofs.Counts.{count-most}
 use Rattle.table.proofs.Held.{blankZone}
 use Rattle.table.proofs.Listed.{zone-listed, zone-entry, zone-section-long}
 use Rattle.table.proofs.Sections.{Going, going-start, next-room, going-more, going-end}
@@ -21,6 +22,10 @@ abbrev μ-loop : tie.MeasureT-loop
 
 room : (c : tie.Start Inv-loop μ-loop) → c .args .at + (1 + length (allBytes zoneBytes (zonesIn (c .args .table .now)))) ≤ length (c .args .out .now)
 room c = omega (arith, c .pre .1, zone-section-long (c .args .table .now))
+
+-- no more than there are places
+few : (c : tie.After-zone-count Inv-loop μ-loop) → c .zone-count .result ≤ 8
+few c = omega (arith, c .zone-count .ensures, count-most zoneCountPlace 8 (c .before .before .before .args .table .now))
 
 loop-holds : tie.Need-loop-holds Inv-loop μ-loop
 loop-holds c =
@@ -47,7 +52,7 @@ put-zone-requires c κs =
     let v = l .loop .inv in
     let m = zone-listed (a .table .now) in
     let k = lengths l in
-    (omega (arith, start .pre .0, v .0), omega (arith, k .1, next-room zoneBytes (zonesIn (a .table .now)) _ _ (l .loop .i) (l .loop .out) (l .loop .next) blankZone (zoneAt (a .table .now) (zonePlace (l .loop .i))) (v .2) (omega (arith, v .0)) (zone-entry (a .table .now) (l .loop .i) (omega (arith, v .0))) (omega (arith, room start, k .0)), k .0))
+    (omega (arith, start .pre .0, few n), omega (arith, k .1, next-room zoneBytes (zonesIn (a .table .now)) _ _ (l .loop .i) (l .loop .out) (l .loop .next) blankZone (zoneAt (a .table .now) (zonePlace (l .loop .i))) (v .2) (omega (arith, v .0)) (zone-entry (a .table .now) (l .loop .i) (omega (arith, v .0))) (omega (arith, room start, k .0)), k .0))
 
 loop-again : tie.Need-loop-again Inv-loop μ-loop
 loop-again c =
@@ -79,4 +84,4 @@ returns c =
 pub put-zones-spec : {M : Type 1} → statement M
 put-zones-spec =
     tie.close
-    (tie.spec Inv-loop μ-loop (λ c κs. search needs) (λ c. omega (arith, c .zone-count .ensures)) (λ c. omega (arith, room (c .before .before .before))) (λ c. omega (arith, room (c .before .before .before))) loop-holds (λ c. omega (arith, c .before .before .loop .inv .0)) (λ c. omega (arith, c .before .before .loop .inv .0)) put-zone-requires (λ c. omega arith) (λ c. omega arith) loop-again (λ c. lengths (c .before) .1) returns)
+    (tie.spec Inv-loop μ-loop (λ c κs. search needs) (λ c. omega (arith, few c)) (λ c. omega (arith, room (c .before .before .before))) (λ c. omega (arith, room (c .before .before .before))) loop-holds (λ c. omega (arith, few (c .before .before .before))) (λ c. omega (arith, few (c .before .before .before))) put-zone-requires (λ c. omega arith) (λ c. omega arith) loop-again (λ c. lengths (c .before) .1) returns)

@@ -1,40 +1,37 @@
 -- `write::zone_length` meets its contract.
-use mathlib.Core.Path.{_≡_, sym, ap, _∙_}
+use mathlib.Core.Path.{_≡_, sym, ap}
 use Prim.Native.Nat.{ℕ, _+_}
 use native.Mathlib.Omega.{arith}
 use borrow.Author.Needs.{needs}
-use lib.ListN.{length}
 use Rattle.word.specs.Place.{byteAt}
-use Rattle.table.specs.Layout.{zonePlace, nameAt}
-use Rattle.table.proofs.Bounds.{unnamed-long, named-long, name-most}
+use Rattle.table.specs.Layout.{zonePlace}
+use Rattle.table.proofs.Bounds.{unnamed-long, named-long, name-long}
 use Rattle.table.proofs.write.zone_length.Statement.{statement}
 use Rattle.table.proofs.write.zone_length.Tie as tie
 
--- the mark that was read is the zone's
-mark : (c : tie.After-u8-at) → let z = c .before in let a = z .before .before .args in c .u8-at .result ≡ byteAt (a .table .now) (zonePlace (a .i) + 12)
-mark c = let z = c .before in let a = z .before .before .args in c .u8-at .ensures ∙ ap (λ (p : ℕ). byteAt (a .table .now) (p + 12)) (z .zone-place .ensures)
-
--- and so is the name
-name : (c : tie.After-name-length) → let z = c .before .before .before in let a = z .before .before .args in c .name-length .result ≡ length (nameAt (a .table .now) (zonePlace (a .i)))
-name c = let z = c .before .before .before in let a = z .before .before .args in c .name-length .ensures ∙ ap (λ (p : ℕ). length (nameAt (a .table .now) p)) (z .zone-place .ensures)
+-- a byte that was read stands in the zone's place
+byte : (c : tie.After-zone-place) (k : ℕ) → let a = c .before .before .args in byteAt (a .table .now) (c .zone-place .result + k) ≡ byteAt (a .table .now) (zonePlace (a .i) + k)
+byte c k = let a = c .before .before .args in ap (λ (p : ℕ). byteAt (a .table .now) (p + k)) (c .zone-place .ensures)
 
 returns : tie.Need-returns
 returns c =
-    let m = c .before in
-    let a = m .before .before .before .args in
-    sym (unnamed-long (a .table .now) (zonePlace (a .i)) (m .u8-at .result) (mark m) (c .if1 .taken))
+    let z = c .before .before in
+    let a = z .before .before .args in
+    sym (unnamed-long (a .table .now) (zonePlace (a .i)) _ (byte z 12) (c .if1 .taken))
 
-add-result : tie.Need-add-result
-add-result c =
-    let a = c .before .before .before .before .before .args in
-    omega (arith, name c, name-most (a .table .now) (zonePlace (a .i)))
+cast-least : tie.Need-cast-least
+cast-least c = omega (arith, c .shared-slice-known3 .given (c .before .before .before .zone-place .result + 13))
 
 returns-2 : tie.Need-returns-2
 returns-2 c =
-    let e = c .before in
-    let m = e .before in
-    let a = m .before .before .before .args in
-    omega (arith, name c, named-long (a .table .now) (zonePlace (a .i)) (m .u8-at .result) (mark m) (e .if1 .left))
+    let e = c .before .before in
+    let z = e .before .before in
+    let a = z .before .before .args in
+    let s = a .table .now in
+    let p = zonePlace (a .i) in
+    omega (arith, c .least .ensures, byte z 13, name-long s p (omega arith), named-long s p _ (byte z 12) (e .if1 .left))
 
 pub zone-length-spec : {M : Type 1} → statement M
-zone-length-spec = tie.close (tie.spec (λ c κs. search needs) (λ c. search needs) (λ c κs. search needs) returns (λ c κs. search needs) add-result returns-2)
+zone-length-spec =
+    tie.close
+    (tie.spec (λ c κs. search needs) (λ c. search needs) (λ c. search needs) returns (λ c. search needs) (λ c. search needs) cast-least (λ c κs. search needs) (λ c. search needs) returns-2)

@@ -7,8 +7,9 @@ use lib.ListN.{length, take, getD, length-append}
 use lib.Seq.{take-all}
 use Rattle.model.specs.Bytes.{zoneBytes, allBytes}
 use Rattle.word.proofs.Writes.{all-more}
-use Rattle.table.specs.Layout.{zonePlace, zoneCount, zonesIn}
+use Rattle.table.specs.Layout.{zoneCountPlace, zonePlace, zoneCount, zonesIn}
 use Rattle.table.proofs.Held.{blankZone}
+use Rattle.table.proofs.Counts.{count-most, zone-stands}
 use Rattle.table.proofs.Bounds.{zone-most}
 use Rattle.table.proofs.Listed.{zone-listed, zone-entry, zone-section-long}
 use Rattle.table.proofs.write.zones_length.Statement.{statement}
@@ -23,6 +24,18 @@ abbrev μ-loop : tie.MeasureT-loop
 loop-holds : tie.Need-loop-holds Inv-loop μ-loop
 unfolding allBytes
 loop-holds c = (c .zone-count .ensures, omega arith, omega arith, omega arith)
+
+zone-length-requires : tie.Need-zone-length-requires Inv-loop μ-loop
+zone-length-requires c κs =
+    let l = c .before in
+    zone-stands (l .before .before .before .args .table .now) (l .loop .i) (omega (arith, l .loop .inv .0))
+
+add-total : tie.Need-add-total Inv-loop μ-loop
+add-total c =
+    let l = c .before .before in
+    let s = l .before .before .before .args .table .now in
+    let v = l .loop .inv in
+    omega (arith, v .0, v .3, count-most zoneCountPlace 8 s, zone-most s (zonePlace (l .loop .i)), c .zone-length .ensures)
 
 loop-again : tie.Need-loop-again Inv-loop μ-loop
 loop-again c =
@@ -49,4 +62,4 @@ returns c =
 pub zones-length-spec : {M : Type 1} → statement M
 zones-length-spec =
     tie.close
-    (tie.spec Inv-loop μ-loop (λ c κs. search needs) loop-holds (λ c κs. omega (arith, c .before .loop .inv .0)) (λ c. omega (arith, c .before .before .loop .inv .0, c .before .before .loop .inv .3, zone-most (c .before .before .before .before .before .args .table .now) (zonePlace (c .before .before .loop .i)), c .zone-length .ensures)) (λ c. omega arith) (λ c. omega arith) loop-again returns)
+    (tie.spec Inv-loop μ-loop (λ c κs. search needs) loop-holds zone-length-requires add-total (λ c. omega arith) (λ c. omega arith) loop-again returns)

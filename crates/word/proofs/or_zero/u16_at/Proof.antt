@@ -1,21 +1,19 @@
 -- `word::or_zero::u16_at` meets its contract.
 use mathlib.Core.Path.{sym, _∙_}
-use native.Mathlib.Omega.{arith}
 use borrow.Author.Needs.{needs}
-use lib.Dec.{lit≤}
 use Rattle.word.proofs.Places.{fitting, word-is, word-none}
 use Rattle.word.proofs.or_zero.u16_at.Statement.{statement}
 use Rattle.word.proofs.or_zero.u16_at.Tie as tie
 
-get-requires : tie.Need-get-requires
-get-requires c κs =
+u16-at-requires : tie.Need-u16-at-requires
+u16-at-requires c κs =
     let a = c .before .before .before .args in
-    (lit≤ tt, fitting 2 (a .s .now) (a .at) (c .before .in-bounds .ensures) (c .if1 .taken))
+    fitting 2 (a .s .now) (a .at) (c .before .in-bounds .ensures) (c .if1 .taken)
 
 returns : tie.Need-returns
 returns c =
     let a = c .before .before .before .before .args in
-    c .get .ensures .0 ∙ sym (word-is 2 (a .s .now) (a .at) (c .before .before .in-bounds .ensures) (c .before .if1 .taken))
+    c .u16-at .ensures ∙ sym (word-is 2 (a .s .now) (a .at) (c .before .before .in-bounds .ensures) (c .before .if1 .taken))
 
 returns-2 : tie.Need-returns-2
 returns-2 c =
@@ -23,4 +21,4 @@ returns-2 c =
     sym (word-none 2 (a .s .now) (a .at) (c .before .in-bounds .ensures) (c .if1 .left))
 
 pub u16-at-spec : {M : Type 1} → statement M
-u16-at-spec = tie.close (tie.spec (λ c κs. search needs) get-requires (λ c. omega (arith, c .get .ensures .1)) returns returns-2)
+u16-at-spec = tie.close (tie.spec (λ c κs. search needs) u16-at-requires returns returns-2)

@@ -1,20 +1,19 @@
 -- `word::or_zero::u64_at` meets its contract.
 use mathlib.Core.Path.{sym, _∙_}
 use borrow.Author.Needs.{needs}
-use lib.Dec.{lit≤}
 use Rattle.word.proofs.Places.{fitting, word-is, word-none}
 use Rattle.word.proofs.or_zero.u64_at.Statement.{statement}
 use Rattle.word.proofs.or_zero.u64_at.Tie as tie
 
-get-requires : tie.Need-get-requires
-get-requires c κs =
+u64-at-requires : tie.Need-u64-at-requires
+u64-at-requires c κs =
     let a = c .before .before .before .args in
-    (lit≤ tt, fitting 8 (a .s .now) (a .at) (c .before .in-bounds .ensures) (c .if1 .taken))
+    fitting 8 (a .s .now) (a .at) (c .before .in-bounds .ensures) (c .if1 .taken)
 
 returns : tie.Need-returns
 returns c =
     let a = c .before .before .before .before .args in
-    c .get .ensures .0 ∙ sym (word-is 8 (a .s .now) (a .at) (c .before .before .in-bounds .ensures) (c .before .if1 .taken))
+    c .u64-at .ensures ∙ sym (word-is 8 (a .s .now) (a .at) (c .before .before .in-bounds .ensures) (c .before .if1 .taken))
 
 returns-2 : tie.Need-returns-2
 returns-2 c =
@@ -22,4 +21,4 @@ returns-2 c =
     sym (word-none 8 (a .s .now) (a .at) (c .before .in-bounds .ensures) (c .if1 .left))
 
 pub u64-at-spec : {M : Type 1} → statement M
-u64-at-spec = tie.close (tie.spec (λ c κs. search needs) get-requires returns returns-2)
+u64-at-spec = tie.close (tie.spec (λ c κs. search needs) u64-at-requires returns returns-2)

@@ -1,0 +1,6 @@
+#!/bin/sh
+# Puts the files under test in place, checks them, and builds the oracle, which needs no archive.
+set -e
+cd "$(dirname "$0")"
+./put.sh
+cargo build --offline --release --quiet --package oracle
