@@ -134,7 +134,7 @@
  *     48  active_time_zone
  *      8  active_dst_offset
  *      8  next_transition
- *    712  walk
+ *    728  walk
  *   2088  record
  *    184  look
  *    176  attempt

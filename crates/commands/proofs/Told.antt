@@ -1,19 +1,17 @@
 -- What a call on the lists returns and leaves.
 use mathlib.Core.Bool.{Bool, true, false, _&&_, cond}
-use mathlib.Core.List.{List, [], _++_}
+use mathlib.Core.List.{List, []}
 use mathlib.Core.Option.{Option, none, some}
 use mathlib.Core.Path.{_≡_, refl, sym, ap, subst, _∙_}
-use Prim.Native.Nat.{ℕ, _+_, _≤_}
+use Prim.Native.Nat.{ℕ, _+_}
 use native.Mathlib.Omega.{arith}
-use borrow.Author.Tests.{le-leb, le-ltb}
+use borrow.Author.Tests.{le-ltb}
 use borrow.Rule.Slice.PartMut.{putMid}
-use lib.Dec.{leb}
-use lib.ListN.{length, take, drop, replicate, length-append}
-use lib.Seq.{take-at}
+use lib.ListN.{length}
 use Rattle.model.specs.declared.Refusal.{Refusal}
 use Rattle.model.specs.declared.Refusal.the-variants.{NoSpace, CommandNotFound, BadLimits}
 use Rattle.model.specs.Numbers.{refusalNumber}
-use Rattle.model.specs.Lists.{Lists, empty}
+use Rattle.model.specs.Lists.{Lists}
 use Rattle.model.specs.Bytes.{number, recordBytes}
 use Rattle.model.specs.Answers.{numberOf, done, Result, unchanged}
 use Rattle.model.specs.Codes.{returned}
@@ -23,11 +21,8 @@ use Rattle.model.specs.Store as M
 use Rattle.model.specs.Store.{Store}
 use Rattle.model.specs.Handler as H
 use Rattle.model.specs.Handler.{Device, ofStore}
-use Rattle.word.specs.Place.{copied, put}
-use Rattle.word.proofs.Places.{copied-there}
-use Rattle.record.specs.declared.Record.{Record}
 use Rattle.record.specs.Written.{recordOf}
-use Rattle.table.specs.Layout.{tableSize, listsIn, storeIn}
+use Rattle.table.specs.Layout.{tableSize, storeIn}
 use Rattle.table.specs.Left.{loadLeft, resetLeft}
 use Rattle.image.specs.Layout.{isImage, tablePlace, tableIn, withTable}
 use Rattle.image.specs.Parts.{deviceIn, hasLists}
@@ -41,27 +36,6 @@ use Rattle.commands.proofs.Says.{refusal-alone}
 -- what is returned, and what is left of the bytes, of the slice for the record and of the number for its length
 abbrev pub Stored : ℕ → List ℕ → List ℕ → ℕ → Storing → Type 0
 Stored n t o m q = (n ≡ q .returned) × (t ≡ q .image) × (o ≡ q .out) × (m ≡ q .used)
-
--- ## The record copied
-
-module _ (t out : List ℕ) (w : Record) (h : tableSize ≤ length t) (k : length (recordBytes (listsIn t)) ≤ length out)
-    (e : w ≡ recordOf (cond (leb tableSize (length t)) (listsIn t) empty)) where
-  is-record : w ≡ recordOf (listsIn t)
-  is-record = e ∙ ap (λ (b : Bool). recordOf (cond b (listsIn t) empty)) (le-leb tableSize (length t) h)
-
-  pub record-length : w .length ≡ length (recordBytes (listsIn t))
-  unfolding recordOf
-  record-length = ap (λ (x : Record). x .length) is-record
-
-  pub record-copied : (o : List ℕ) → o ≡ copied out 0 (w .bytes) 0 (w .length) → o ≡ copiedOver (recordBytes (listsIn t)) out
-  unfolding recordOf
-  record-copied o p =
-      let r = recordBytes (listsIn t) in
-      let zs = recordOf (listsIn t) .bytes in
-      let z : 0 + length r ≡ length r = omega arith in
-      let l : length r ≤ length zs = simp length-append (omega arith) in
-      p ∙ ap (λ (x : Record). copied out 0 (x .bytes) 0 (x .length)) is-record ∙ copied-there out 0 zs 0 (length r) (omega arith) (omega arith)
-      ∙ ap (λ (x : List ℕ). put out 0 x) (take-at r _ (length r) refl) ∙ ap (λ (n : ℕ). r ++ drop n out) z
 
 -- ## On a table
 

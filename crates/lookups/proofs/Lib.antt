@@ -5,3 +5,4 @@ pub mod Soonest
 pub mod Views
 pub mod Names
 pub mod Walked
+pub mod Owned

@@ -1,21 +1,20 @@
 -- The common shape of a reading: refused before anything is read, or what is read.
 use mathlib.Core.Bool.{Bool, true, false, cond}
-use mathlib.Core.List.{List, _++_}
+use mathlib.Core.List.{List}
 use mathlib.Core.Option.{Option, none, some}
 use mathlib.Core.Path.{_≡_, refl, sym, _∙_, ap}
-use Prim.Native.Nat.{ℕ, _+_, _<_, _≤_}
+use Prim.Native.Nat.{ℕ, _<_, _≤_}
 use native.Mathlib.Omega.{arith}
 use borrow.Author.Tests.{lt-ltb, le-ltb}
-use lib.ListN.{length, drop}
+use lib.ListN.{length}
 use Rattle.model.specs.declared.Refusal.{Refusal}
 use Rattle.model.specs.declared.Refusal.the-variants.{ConstraintError, AttributeNotFound, BadLimits, NoSpace}
 use Rattle.model.specs.Numbers.{refusalNumber}
 use Rattle.model.specs.Answers.{Answer, refused, answers, numberOf}
-use Rattle.model.specs.Output.{copiedOver, roomy, leaves}
+use Rattle.model.specs.Output.{roomy, leaves}
 use Rattle.model.specs.Store.{Store}
 use Rattle.model.specs.Handler.{ofLists, entryOf}
 use Rattle.model.proofs.Facts.{by-test}
-use Rattle.word.specs.Place.{put}
 use Rattle.table.specs.Layout.{tableSize, storeIn}
 use Rattle.image.specs.Layout.{imageSize, isImage, tableIn}
 use Rattle.image.specs.Parts.{hasLists, deviceIn}
@@ -116,7 +115,3 @@ module _ (s : List ℕ) (n : ℕ) (e : n ≡ listsRefusal s) (h : n ≡ 0) where
 
   pub table-sized : tableSize ≤ length (tableIn s)
   table-sized = omega (arith, table-long s readable)
-
--- bytes put at the front stand over what was there
-pub put-front : (s bs : List ℕ) → put s 0 bs ≡ copiedOver bs s
-put-front s bs = let e : 0 + length bs ≡ length bs = omega arith in ap (λ (k : ℕ). bs ++ drop k s) e

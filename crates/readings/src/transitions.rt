@@ -1,11 +1,10 @@
 // The next transition, the walk, and the record.
 ghost use mathlib.Core.Path.{_≡_};
-ghost use Prim.Native.Nat.{_*_, _≤_};
-ghost use lib.ListN.{length, take};
+ghost use Prim.Native.Nat.{_≤_};
+ghost use lib.ListN.{length};
 ghost use Rattle.model.specs.Answers.{numberOf};
 ghost use Rattle.model.specs.Lookups as L;
-ghost use Rattle.model.specs.Output.{momentsBytes, roomy, leaves, leavesCopy, markOf, orZero};
-ghost use Rattle.word.specs.Place.{put};
+ghost use Rattle.model.specs.Output.{roomy, leaves, leavesCopy, markOf, orZero};
 ghost use Rattle.table.specs.Layout.{tableSize, listsIn, storeIn};
 ghost use Rattle.readings.specs.Readings.{nextTransition, walked, walkBytes, recordRead, recordBytes};
 ghost use Rattle.readings.specs.Stored as S;
@@ -19,18 +18,6 @@ use image::place::TABLE;
 
 // How many bytes a moment is written as.
 const MOMENT: usize = 8;
-
-// Writes the first n moments to the front of `out`, one after another.
-fn put_moments(out: &mut [u8], moments: &[u64], n: usize)
-    requires { ⌜ (n ≤ 41) × (n ≤ length (now moments)) × (8 * n ≤ length (now out)) ⌝ }
-    ensures { λ _. ⌜ now (out .exit) ≡ put (now (out .entry)) 0 (momentsBytes (take n (now (moments .entry)))) ⌝ }
-{
-    let mut i: usize = 0;
-    while i < n {
-        word::put_u64(out, MOMENT * i, moments[i]);
-        i += 1;
-    }
-}
 
 // The next transition of a table.
 fn put_next(table: &[u8], utc: u64, there: &mut u64, moment: &mut u64)
@@ -53,8 +40,7 @@ fn put_walk(table: &[u8], start: u64, moments: &mut [u8], steps: &mut u64) -> u6
     if moments.len() < MOMENT * (n + 1) {
         return NO_SPACE;
     }
-    let ms = walk.moments;
-    put_moments(moments, &ms, n + 1);
+    word::put_u64s(moments, &walk.moments, n + 1);
     *steps = n as u64;
     TAKEN
 }

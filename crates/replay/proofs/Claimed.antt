@@ -30,7 +30,7 @@ use Rattle.table.proofs.Made.{not-allowed, is-made, none-made, one-made}
 use Rattle.replay.specs.Replays.{Replayed, answersOf, newStore, nameTold, momentsTold, replayed, Lent, told, lentAfter}
 use Rattle.replay.specs.Claim.{Demand3Answered, ReplayClaim}
 use Rattle.replay.specs.Tables.{answered}
-use Rattle.replay.proofs.Written.{length-moments}
+use Rattle.word.proofs.Writes.{length-numbers}
 
 -- ## By the limits and the history
 
@@ -152,7 +152,7 @@ told-moments : (x l : Lists) (start : ℕ) (slice : List ℕ) → x ≡ l → le
     → take (8 * suc (walk x start .steps)) (copiedOver (momentsBytes (walk x start .moments)) slice) ≡ momentsBytes (walk l start .moments)
 told-moments x l start slice e k =
     let b = momentsBytes (walk l start .moments) in
-    rw e (take-at b (drop (length b) slice) (8 * suc (walk l start .steps)) (length-moments (walk l start .moments) ∙ ap (λ (i : ℕ). 8 * i) k))
+    rw e (take-at b (drop (length b) slice) (8 * suc (walk l start .steps)) (length-numbers (walk l start .moments) ∙ ap (λ (i : ℕ). 8 * i) k))
 
 new-made : (r : Rules) → allowed r ≡ true → new r ≡ answers (newStore r)
 unfolding new

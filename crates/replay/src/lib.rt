@@ -21,6 +21,9 @@ const UNREADABLE: u64 = 1;
 
 const NO_SPACE: u64 = 9;
 
+// How many bytes a moment is written as.
+const MOMENT_SIZE: usize = 8;
+
 // Every lookup in a table at a moment, the walk from another on, the record and the generation; tested for room before anything is written.
 fn answered(
     table: &[u8],
@@ -49,7 +52,7 @@ fn answered(
 {
     let walk = lookups::transitions::walk(table, start);
     let n = walk.steps + 1;
-    if moments.len() < told::MOMENT_SIZE * n {
+    if moments.len() < MOMENT_SIZE * n {
         return NO_SPACE;
     }
     let shown = lookups::zones::active_time_zone(table, at);
@@ -57,7 +60,7 @@ fn answered(
         return NO_SPACE;
     }
     if told::record(table, out, used) {
-        told::moments(moments, &walk.moments, n);
+        word::put_u64s(moments, &walk.moments, n);
         *steps = walk.steps as u64;
         told::zone(table, shown, name, zone, named, name_used);
         told::window(table, at, active, window, usable);

@@ -1,20 +1,17 @@
 // Answers written into what the caller lends: a value that may be missing has a mark beside it, and is 0 where it is missing.
 ghost use mathlib.Core.Bool.{not, cond};
 ghost use mathlib.Core.Path.{_≡_};
-ghost use Prim.Native.Nat.{_+_, _*_, _≤_};
-ghost use lib.ListN.{length, take};
+ghost use Prim.Native.Nat.{_+_, _≤_};
+ghost use lib.ListN.{length};
 ghost use Rattle.model.specs.Lookups as L;
 ghost use Rattle.model.specs.Maybe.{optionU64, optionI32};
-ghost use Rattle.model.specs.Output.{tooShort, copiedOver, momentsBytes, markOf, truth, orZero, orZeroℤ, nameOr};
+ghost use Rattle.model.specs.Output.{tooShort, copiedOver, markOf, truth, orZero, orZeroℤ, nameOr};
 ghost use Rattle.model.specs.Store.{recordOf};
 ghost use Rattle.lookups.specs.Laws.{shownName};
 ghost use Rattle.table.specs.Layout.{tableSize, listsIn, storeIn};
 use lookups::ZoneShown;
 use model::MaybeI32;
 use model::MaybeU64;
-
-// How many bytes a moment is written as.
-pub(crate) const MOMENT_SIZE: usize = 8;
 
 // 1 for true, 0 for false.
 fn bit(b: bool) -> u64
@@ -68,18 +65,6 @@ fn offset_of(zone: ZoneShown) -> i32
     ensures { λ r. ⌜ r ≡ zone .offset ⌝ }
 {
     zone.offset
-}
-
-// The first n moments to the front of a slice, 8 bytes each.
-pub(crate) fn moments(out: &mut [u8], moments: &[u64], n: usize)
-    requires { ⌜ (n ≤ 41) × (n ≤ length (now moments)) × (8 * n ≤ length (now out)) ⌝ }
-    ensures { λ _. ⌜ now (out .exit) ≡ copiedOver (momentsBytes (take n (now (moments .entry)))) (now (out .entry)) ⌝ }
-{
-    let mut i: usize = 0;
-    while i < n {
-        word::put_u64(out, MOMENT_SIZE * i, moments[i]);
-        i += 1;
-    }
 }
 
 // A zone that is shown, its name to the front of a slice that has room.

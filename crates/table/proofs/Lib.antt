@@ -11,6 +11,7 @@ pub mod Alike
 pub mod Back
 pub mod Written
 pub mod Records
+pub mod Recorded
 pub mod Made
 pub mod Room
 pub mod Heads

@@ -3,10 +3,10 @@ use mathlib.Core.Bool.{true}
 use mathlib.Core.List.{List, [], _∷_}
 use mathlib.Core.Option.{Option}
 use mathlib.Core.Path.{_≡_, refl, sym, ap, _∙_}
-use Prim.Native.Nat.{ℕ, zero, suc, _+_, _-_, _*_, _≤_, _<_}
+use Prim.Native.Nat.{ℕ, zero, suc, _+_, _-_, _*_, _^_, _≤_, _<_}
 use native.Mathlib.Omega.{arith}
 use borrow.Author.Tests.{ltb-true, ltb-false}
-use lib.Bits.{bitAnd, and-block}
+use lib.Bits.{bitAnd, and-block, and-zero-l, and-zero-r}
 use lib.Dec.{ltb, lit<}
 use lib.ListN.{length, take, drop, getD, length-drop}
 use lib.Seq.{getD-take, getD-drop, length-take-le}
@@ -46,6 +46,19 @@ zero-bits (x ∷ xs) b e zero h = low x (b 0) (omega (arith, e, parts x (number 
 zero-bits (x ∷ xs) b e (suc i) h =
     zero-bits xs (λ j. b (suc j)) (omega (arith, e, parts x (number xs) (tops (length xs)) (b 0))) i (omega arith)
 
+-- and the other way round
+low-back : (x : ℕ) → x < 128 → bitAnd x 128 ≡ 0
+low-back x h =
+    let e : x ≡ 0 * 2 ^ 7 + x = omega arith in
+    ap (λ (k : ℕ). bitAnd k 128) e ∙ and-block 7 0 1 x 0 h (lit< tt) ∙ omega (arith, and-zero-l 1, and-zero-r x)
+
+zero-back : (xs : List ℕ) → ((i : ℕ) → i < length xs → getD xs i 0 < 128) → bitAnd (number xs) (tops (length xs)) ≡ 0
+unfolding number tops
+zero-back [] b = and-zero-r 0
+zero-back (x ∷ xs) b =
+    let h = b 0 (omega arith) in
+    omega (arith, parts x (number xs) (tops (length xs)) (omega arith), low-back x h, zero-back xs (λ i k. b (suc i) (omega arith)))
+
 -- eight bytes at a place
 pub eight-plain : (s : List ℕ) (at : ℕ) → at + 8 ≤ length s → ((i : ℕ) → getD s i 0 < 256) → bitAnd (number (take 8 (drop at s))) 0x8080808080808080 ≡ 0 → PlainFrom s at 8
 unfolding tops
@@ -55,6 +68,15 @@ eight-plain s at h b e i l k =
     let same : (j : ℕ) → j < 8 → getD xs j 0 ≡ getD s (at + j) 0 = λ j m. getD-take 8 (drop at s) j 0 m ∙ getD-drop at s j 0 in
     let d : at + (i - at) ≡ i = omega arith in
     omega (arith, zero-bits xs (part-below s at 8 b) (ap (λ (m : ℕ). bitAnd (number xs) (tops m)) n ∙ e) (i - at) (omega arith), same (i - at) (omega arith), ap (λ (m : ℕ). getD s m 0) d)
+
+pub eight-zero : (s : List ℕ) (at : ℕ) → at + 8 ≤ length s → PlainFrom s at 8 → bitAnd (number (take 8 (drop at s))) 0x8080808080808080 ≡ 0
+unfolding tops
+eight-zero s at h p =
+    let xs = take 8 (drop at s) in
+    let n : length xs ≡ 8 = length-take-le 8 (drop at s) (omega (arith, length-drop at s)) in
+    let low : (j : ℕ) → j < length xs → getD xs j 0 < 128
+    = λ j k. omega (arith, p (at + j) (omega arith) (omega arith), getD-take 8 (drop at s) j 0 (omega arith), getD-drop at s j 0) in
+    ap (λ (m : ℕ). bitAnd (number xs) (tops m)) (sym n) ∙ zero-back xs low
 
 -- one range of bytes, and one behind it
 pub further : (s : List ℕ) (at n : ℕ) → PlainFrom s 0 at → PlainFrom s at n → (m : ℕ) → m ≤ at + n → PlainFrom s 0 m

@@ -6,12 +6,15 @@ use Prim.Native.Nat.{ℕ, zero, suc, _+_, _*_, _-_, _≤_, _<_}
 use native.Mathlib.Nat.{add-zero}
 use native.Mathlib.Numerals.{add-one}
 use native.Mathlib.Omega.{arith}
+use borrow.Author.Tests.{le-leb, lt-leb}
 use lib.ListN.{length, take, drop, set, getD, replicate, length-append, take-append-drop, length-replicate}
 use lib.Seq.{take-suc}
-use Rattle.model.specs.Bytes.{allBytes}
-use Rattle.word.specs.Place.{fitsAt, put, placed}
+use Rattle.model.specs.Bytes.{bytes, allBytes}
+use Rattle.model.specs.Output.{copiedOver}
+use Rattle.model.proofs.Words.{length-bytes}
+use Rattle.word.specs.Place.{fitsAt, put, placed, copied, withNumbers}
 use Rattle.word.proofs.Laws.{length-put, put-put, put-one}
-use Rattle.word.proofs.Places.{placed-there}
+use Rattle.word.proofs.Places.{placed-there, copied-there}
 
 -- bytes that do not fit are not put anywhere
 pub placed-short : (s : List ℕ) (at : ℕ) (bs : List ℕ) → fitsAt s at (length bs) ≡ false → placed s at bs ≡ s
@@ -103,3 +106,38 @@ module _ {B : Type 0} (entryBytes : B → List ℕ) (most : ℕ) (l : List B) (s
         place = omega (arith, w .place, length-append (allBytes entryBytes (take i l)) (entryBytes e), ap length more);
         short = omega (arith, w .short);
       }
+
+-- ## Numbers one after another
+
+abbrev pub numbersBytes : List ℕ → List ℕ
+numbersBytes ns = allBytes (λ m. bytes 8 m) ns
+
+pub length-numbers : (ns : List ℕ) → length (numbersBytes ns) ≡ 8 * length ns
+unfolding allBytes
+length-numbers [] = refl
+length-numbers (n ∷ ns) = omega (arith, length-append (bytes 8 n) (numbersBytes ns), length-bytes 8 n, length-numbers ns)
+
+pub no-numbers : numbersBytes [] ≡ []
+unfolding allBytes
+no-numbers = refl
+
+-- where there are so many and all have room
+pub numbers-there : (s ns : List ℕ) (n : ℕ) → n ≤ length ns → 8 * n ≤ length s → withNumbers s ns n ≡ put s 0 (numbersBytes (take n ns))
+unfolding withNumbers
+numbers-there s ns n h k = rw (le-leb n (length ns) h, le-leb (8 * n) (length s) k)
+
+pub numbers-few : (s ns : List ℕ) (n : ℕ) → length ns < n → withNumbers s ns n ≡ s
+unfolding withNumbers
+numbers-few s ns n h = rw (lt-leb n (length ns) h)
+
+pub numbers-short : (s ns : List ℕ) (n : ℕ) → n ≤ length ns → length s < 8 * n → withNumbers s ns n ≡ s
+unfolding withNumbers
+numbers-short s ns n h k = rw (le-leb n (length ns) h, lt-leb (8 * n) (length s) k)
+
+-- bytes put at the front stand over what was there
+pub put-front : (s bs : List ℕ) → put s 0 bs ≡ copiedOver bs s
+put-front s bs = let e : 0 + length bs ≡ length bs = omega arith in ap (λ (k : ℕ). bs ++ drop k s) e
+
+-- a part that has room is copied over the front
+pub copied-front : (s t : List ℕ) (from n : ℕ) (bs : List ℕ) → from + n ≤ length t → n ≤ length s → take n (drop from t) ≡ bs → copied s 0 t from n ≡ copiedOver bs s
+copied-front s t from n bs h k e = copied-there s 0 t from n h (omega arith) ∙ ap (put s 0) e ∙ put-front s bs

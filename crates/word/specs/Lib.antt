@@ -2,3 +2,4 @@
 pub mod Place
 pub mod Lead
 pub mod Plain
+pub mod Examples

@@ -2,11 +2,11 @@
 use mathlib.Core.Bool.{Bool, false, _&&_, cond}
 use mathlib.Core.List.{List, _++_}
 use mathlib.Core.Option.{Option, none, some}
-use Prim.Native.Nat.{ℕ, _+_}
+use Prim.Native.Nat.{ℕ, _+_, _*_}
 use lib.Dec.{leb}
 use lib.IntN.{ℤ}
 use lib.ListN.{length, take, drop, getD}
-use Rattle.model.specs.Bytes.{number, signed, wellFormed}
+use Rattle.model.specs.Bytes.{number, bytes, allBytes, signed, wellFormed}
 use Rattle.word.specs.declared.MaybeU32.{MaybeU32}
 use Rattle.word.specs.declared.MaybeU32.the-variants as U
 
@@ -42,6 +42,10 @@ placed s at bs = cond (fitsAt s at (length bs)) (put s at bs) s
 -- s with the n bytes of t from `from` on copied to `at`, where both have so many; else s as it was
 unfoldable pub copied : List ℕ → ℕ → List ℕ → ℕ → ℕ → List ℕ
 copied s at t from n = cond (fitsAt t from n && fitsAt s at n) (put s at (take n (drop from t))) s
+
+-- s with the first n numbers at its front, 8 bytes each, where there are so many and all have room; else s as it was
+unfoldable pub withNumbers : List ℕ → List ℕ → ℕ → List ℕ
+withNumbers s ns n = cond (leb n (length ns) && leb (8 * n) (length s)) (put s 0 (allBytes (λ m. bytes 8 m) (take n ns))) s
 
 -- the byte at `at`; 0 where there is none
 abbrev pub byteAt : List ℕ → ℕ → ℕ

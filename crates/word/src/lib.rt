@@ -1,5 +1,5 @@
-// Numbers at a place of a slice, little endian and in two's complement. Every function is total: a place past the end reads as missing,
-// and stores nothing.
+// Numbers at a place of a slice, little endian and in two's complement. Every public function is total: a place past the end reads as
+// missing, and stores nothing.
 mod held;
 pub mod or_zero;
 pub mod spelled;
@@ -8,9 +8,9 @@ pub mod text;
 ghost use mathlib.Core.Path.{_≡_};
 ghost use Prim.Native.Nat.{_+_, _*_, _≤_, min};
 ghost use lib.ListN.{length, take, drop};
-ghost use Rattle.model.specs.Bytes.{number, bytes, bitsOf, signed};
+ghost use Rattle.model.specs.Bytes.{bytes, allBytes, bitsOf, signed};
 ghost use Rattle.model.specs.Maybe.{maybeU64, maybeI32};
-ghost use Rattle.word.specs.Place.{fitsAt, numberAt, signedAt, maybeU32, put, placed, copied};
+ghost use Rattle.word.specs.Place.{fitsAt, numberAt, signedAt, maybeU32, put, placed, copied, withNumbers};
 use model::MaybeI32;
 use model::MaybeU64;
 
@@ -180,6 +180,29 @@ pub fn put_i32(out: &mut [u8], at: usize, z: i32) -> bool
     ensures { λ r. ⌜ (r ≡ fitsAt (now (out .entry)) at 4) × (now (out .exit) ≡ placed (now (out .entry)) at (bytes 4 (bitsOf z))) ⌝ }
 {
     put_u32(out, at, to_bits(z))
+}
+
+// Writes the first n numbers at the front, 8 bytes each.
+fn put_numbers(out: &mut [u8], numbers: &[u64], n: usize)
+    requires { ⌜ (n ≤ length (now numbers)) × (8 * n ≤ length (now out)) ⌝ }
+    ensures { λ _. ⌜ now (out .exit) ≡ put (now (out .entry)) 0 (allBytes (λ m. bytes 8 m) (take n (now (numbers .entry)))) ⌝ }
+{
+    let mut i: usize = 0;
+    while i < n {
+        put_u64(out, WORD * i, numbers[i]);
+        i += 1;
+    }
+}
+
+// Writes the first n numbers at the front, 8 bytes each, where there are so many and all have room; else nothing.
+pub fn put_u64s(out: &mut [u8], numbers: &[u64], n: usize)
+    ensures { λ _. ⌜ now (out .exit) ≡ withNumbers (now (out .entry)) (now (numbers .entry)) n ⌝ }
+{
+    if n <= numbers.len() {
+        if n <= out.len() / WORD {
+            put_numbers(out, numbers, n);
+        }
+    }
 }
 
 // The smaller of two numbers.

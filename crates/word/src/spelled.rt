@@ -4,18 +4,21 @@ ghost use mathlib.Core.List.{[], _∷_};
 ghost use mathlib.Core.Path.{_≡_};
 ghost use Rattle.model.specs.Bytes.{number, signed};
 
+// The same number, wider.
 fn from_8(b: u8) -> u16
     ensures { λ r. ⌜ r ≡ b ⌝ }
 {
     b as u16
 }
 
+// The same number, wider.
 fn from_16(n: u16) -> u32
     ensures { λ r. ⌜ r ≡ n ⌝ }
 {
     n as u32
 }
 
+// The same number, wider.
 fn from_32(n: u32) -> u64
     ensures { λ r. ⌜ r ≡ n ⌝ }
 {

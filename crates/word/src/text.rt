@@ -1,12 +1,11 @@
 // Well-formed UTF-8, by the table of the Unicode Standard.
-ghost use mathlib.Core.Bool.{true};
 ghost use mathlib.Core.Path.{_≡_};
 ghost use Prim.Native.Nat.{_+_, _≤_};
 ghost use lib.ListN.{length};
 ghost use Rattle.model.specs.Bytes.{wellFormed, table};
 ghost use Rattle.word.specs.Place.{textAt};
 ghost use Rattle.word.specs.Lead.{follows};
-ghost use Rattle.word.specs.Plain.{PlainFrom};
+ghost use Rattle.word.specs.Plain.{PlainFrom, Decides};
 use crate::WORD;
 
 // The highest bit of each byte of a word.
@@ -94,7 +93,7 @@ fn start(b: u8) -> Lead
 // Whether the eight bytes at `at` are below 0x80.
 fn plain_at(s: &[u8], at: usize) -> bool
     requires { ⌜ at + 8 ≤ length (now s) ⌝ }
-    ensures { λ r. ⌜ (r ≡ true → PlainFrom (now (s .entry)) at 8) ⌝ }
+    ensures { λ r. ⌜ Decides r (PlainFrom (now (s .entry)) at 8) ⌝ }
 {
     crate::held::u64_at(s, at) & TOPS == 0
 }
@@ -102,7 +101,7 @@ fn plain_at(s: &[u8], at: usize) -> bool
 // Whether all bytes are below 0x80, eight at a time; the last eight may overlap those before them.
 fn plain(s: &[u8]) -> bool
     requires { ⌜ 8 ≤ length (now s) ⌝ }
-    ensures { λ r. ⌜ (r ≡ true → PlainFrom (now (s .entry)) 0 (length (now (s .entry)))) ⌝ }
+    ensures { λ r. ⌜ Decides r (PlainFrom (now (s .entry)) 0 (length (now (s .entry)))) ⌝ }
 {
     let last = s.len() - WORD;
     let mut i: usize = 0;

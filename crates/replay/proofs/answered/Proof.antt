@@ -2,16 +2,18 @@
 use mathlib.Core.Bool.{Bool, true, false, not, cond}
 use mathlib.Core.List.{List}
 use mathlib.Core.Path.{_≡_, refl, sym, ap, _∙_}
-use Prim.Native.Nat.{ℕ}
+use Prim.Native.Nat.{ℕ, _+_}
 use native.Mathlib.Omega.{arith}
 use borrow.Author.Needs.{needs}
-use lib.ListN.{length}
+use lib.ListN.{length, take}
 use Rattle.model.specs.Lookups.{ZoneNow}
 use Rattle.model.specs.Output.{tooShort, copiedOver, momentsBytes, markOf, nameOr}
 use Rattle.model.specs.Store.{recordOf}
 use Rattle.table.specs.Layout.{storeIn}
 use Rattle.replay.specs.Replays.{answersOf, nameTold}
-use Rattle.replay.proofs.Written.{WalkByValue, walk-by-value, ZoneByValue, zone-by-value}
+use Rattle.word.proofs.Writes.{numbers-there, put-front}
+use Rattle.lookups.proofs.Owned.{WalkByValue, walk-by-value}
+use Rattle.replay.proofs.Written.{ZoneByValue, zone-by-value}
 use Rattle.replay.proofs.Claimed.{no-moments-room, no-name-room, no-record-room, all-told, lent-parts}
 use Rattle.replay.proofs.answered.Statement.{statement}
 use Rattle.replay.proofs.answered.Tie as tie
@@ -63,9 +65,6 @@ returns-2 c =
     let a = w .before .before .before .before .before .args in
     rw (no-name-room (a .table .now) (a .start) (a .at) (length (a .moments .now)) (length (a .name .now)) (length (a .out .now)) (omega (arith, walked w .long)) (omega (arith, name-long z))) (refl, refl)
 
-moments-requires : tie.Need-moments-requires
-moments-requires c κs = let h = walked (c .before .before .before .before .before .before .before .before .before .before .before .before .before .before) in (omega (arith, h .few), h .room, c .before .before .before .before .before .before .before .before .before .before .before .before .before .if1 .left)
-
 zone-requires : tie.Need-zone-requires
 zone-requires c κs = let z = shown (c .before .before .before .before .before .before .before .before .before .before .before .before .before .before .before .before .before .before .before) in (omega (arith, z .inside, c .before .before .before .before .before .before .before .before .before .before .before .before .before .before .before .before .before .before .before .before .before .before .before .before .before .before .pre), c .before .before .before .before .before .before .before .before .before .before .before .before .before .before .before .before .before .if2 .left, z .long)
 
@@ -89,7 +88,8 @@ returns-3 c =
     ) (
       refl,
       lent-parts
-          (c .before .before .before .before .before .before .before .before .before .before .before .before .before .before .before .before .before .moments .ensures ∙ ap (λ (ms : List ℕ). copiedOver (momentsBytes ms) (a .moments .now)) (walked w .held))
+          (c .before .before .before .before .before .before .before .before .before .before .before .before .before .before .before .before .before .put-u64s .ensures ∙ numbers-there (a .moments .now) (w .walk .result .moments) (w .walk .result .steps + 1) (walked w .room) (r .before .before .before .before .before .before .if1 .left)
+          ∙ put-front (a .moments .now) (momentsBytes (take (w .walk .result .steps + 1) (w .walk .result .moments))) ∙ ap (λ (ms : List ℕ). copiedOver (momentsBytes ms) (a .moments .now)) (walked w .held))
           (walked w .steps)
           (zone .0 ∙ ap (λ (x : ZoneNow). copiedOver (nameOr (x .name)) (a .name .now)) is)
           (zone .1 ∙ ap (λ (x : ZoneNow). x .offset) is)
@@ -132,7 +132,7 @@ answered-spec =
     (λ c κs. search needs)
     returns-2
     (λ c κs. search needs)
-    moments-requires
+    (λ c κs. search needs)
     zone-requires
     (λ c κs. search needs)
     (λ c κs. search needs)

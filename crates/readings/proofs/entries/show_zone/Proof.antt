@@ -1,17 +1,14 @@
 -- `readings::entries::show_zone` meets its contract.
 use borrow.Author.Needs.{needs}
-use mathlib.Core.Path.{_≡_, refl, sym, ap, _∙_}
-use native.Mathlib.Omega.{arith}
+use mathlib.Core.Path.{_≡_, refl, sym, _∙_}
 use mir.Syntax.{w32}
 use mir.Val.{toZ, ofZ}
-use Rattle.model.specs.Answers.{Answer, answers}
-use Rattle.model.specs.Lookups.{ZoneNow}
+use Rattle.model.specs.Answers.{answers}
 use Rattle.model.specs.Output.{nameOr}
-use Rattle.word.specs.Place.{put}
-use Rattle.word.proofs.Places.{copied-there}
+use Rattle.word.proofs.Writes.{copied-front}
 use Rattle.lookups.specs.Laws.{shownName, zoneNowIn}
 use Rattle.readings.specs.Readings.{nowName}
-use Rattle.readings.proofs.Answered.{refused-number, refused-leaves, answered-number, answered-leaves, no-room, has-room, put-front}
+use Rattle.readings.proofs.Answered.{refused-number, refused-leaves, answered-number, answered-leaves, no-room, has-room}
 use Rattle.readings.proofs.Names.{named-mark, length-name}
 use Rattle.readings.proofs.entries.show_zone.Statement.{statement}
 use Rattle.readings.proofs.entries.show_zone.Tie as tie
@@ -38,8 +35,7 @@ returns-2 c =
     let e = has-room e₀ _ nowName _ (length-name h) (i .if1 .left) in
     let back : toZ w32 (ofZ w32 (o .offset-of .result)) ≡ o .offset-of .result = search needs in
     let copy =
-    p .copy .ensures ∙ copied-there (a .name .now) 0 t (z .«name_at») (z .«name_len») (h .room) (omega (arith, i .if1 .left))
-    ∙ ap (put (a .name .now) 0) (sym (h .is)) ∙ put-front (a .name .now) (nameOr (shownName t z)) in
+    p .copy .ensures ∙ copied-front (a .name .now) t (z .«name_at») (z .«name_len») (nameOr (shownName t z)) (h .room) (i .if1 .left) (sym (h .is)) in
     (answered-number e, answered-leaves e _ _ _ copy, answered-leaves e _ _ _ (back ∙ o .offset-of .ensures), answered-leaves e _ _ _ (c .bit .ensures ∙ named-mark t z), answered-leaves e _ _ _ (length-name h))
 
 pub show-zone-spec : {M : Type 1} → statement M

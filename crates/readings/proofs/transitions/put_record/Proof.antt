@@ -1,18 +1,14 @@
 -- `readings::transitions::put_record` meets its contract.
 use borrow.Author.Needs.{needs}
-use mathlib.Core.List.{List}
-use mathlib.Core.Path.{_≡_, refl, ap, _∙_}
-use Prim.Native.Nat.{ℕ}
+use mathlib.Core.Path.{_≡_, refl, _∙_}
 use native.Mathlib.Omega.{arith}
-use Rattle.model.specs.Answers.{Answer}
 use Rattle.model.specs.Store as T
-use Rattle.word.specs.Place.{put}
-use Rattle.word.proofs.Places.{copied-there}
+use Rattle.word.proofs.Writes.{copied-front}
+use Rattle.table.proofs.Recorded.{record-by-value}
 use Rattle.table.specs.Layout.{storeIn}
 use Rattle.readings.specs.Readings.{recordBytes}
 use Rattle.readings.specs.Stored.{recordRead}
-use Rattle.readings.proofs.Answered.{refused-number, refused-leaves, answered-number, answered-leaves, no-room, has-room, put-front}
-use Rattle.readings.proofs.Records.{by-value}
+use Rattle.readings.proofs.Answered.{refused-number, refused-leaves, answered-number, answered-leaves, no-room, has-room}
 use Rattle.readings.proofs.transitions.put_record.Statement.{statement}
 use Rattle.readings.proofs.transitions.put_record.Tie as tie
 
@@ -21,7 +17,7 @@ returns c =
     let d = c .before in
     let start = d .before .before .before in
     let t = start .args .table .now in
-    let h = by-value t (d .record .result) (start .pre) (d .record .ensures) in
+    let h = record-by-value t (d .record .result) (start .pre) (d .record .ensures) in
     let e : recordRead (storeIn t) ≡ recordRead (storeIn t) = refl in
     let r = no-room e _ recordBytes _ (h .count) (c .if1 .taken) in
     (refused-number r, refused-leaves r _ _, refused-leaves r _ _)
@@ -35,12 +31,11 @@ returns-2 c =
     let a = start .args in
     let t = a .table .now in
     let r = d .record .result in
-    let h = by-value t r (start .pre) (d .record .ensures) in
+    let h = record-by-value t r (start .pre) (d .record .ensures) in
     let e₀ : recordRead (storeIn t) ≡ recordRead (storeIn t) = refl in
     let e = has-room e₀ _ recordBytes _ (h .count) (i .if1 .left) in
     let copy =
-    p .copy .ensures ∙ copied-there (a .out .now) 0 (r .bytes) 0 (r .length) (omega (arith, h .room)) (omega (arith, i .if1 .left))
-    ∙ ap (put (a .out .now) 0) (h .is) ∙ put-front (a .out .now) (T.recordOf (storeIn t)) in
+    p .copy .ensures ∙ copied-front (a .out .now) (r .bytes) 0 (r .length) (T.recordOf (storeIn t)) (omega (arith, h .room)) (i .if1 .left) (h .is) in
     (answered-number e, answered-leaves e _ _ _ copy, answered-leaves e _ _ _ (h .count))
 
 pub put-record-spec : {M : Type 1} → statement M

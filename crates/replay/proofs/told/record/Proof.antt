@@ -8,7 +8,8 @@ use borrow.Author.Tests.{lt-ltb, le-ltb}
 use lib.ListN.{length}
 use Rattle.model.specs.Store.{recordOf}
 use Rattle.table.specs.Layout.{storeIn}
-use Rattle.replay.proofs.Written.{record-by-value, copied-front}
+use Rattle.word.proofs.Writes.{copied-front}
+use Rattle.table.proofs.Recorded.{record-by-value}
 use Rattle.replay.proofs.told.record.Statement.{statement}
 use Rattle.replay.proofs.told.record.Tie as tie
 
@@ -27,7 +28,7 @@ returns-2 c =
     let h = record-by-value s (r .record .result) (omega arith) (r .record .ensures) in
     let k : r .record .result .length ≤ length (a .out .now) = c .before .before .before .before .before .before .before .if1 .left in (
       sym (ap not (le-ltb (length (a .out .now)) (length (recordOf (storeIn s))) (omega (arith, h .count)))),
-      c .before .before .copy .ensures ∙ copied-front (a .out .now) (r .record .result .bytes) 0 (r .record .result .length) (recordOf (storeIn s)) (h .room) k (h .is),
+      c .before .before .copy .ensures ∙ copied-front (a .out .now) (r .record .result .bytes) 0 (r .record .result .length) (recordOf (storeIn s)) (omega (arith, h .room)) k (h .is),
       h .count,
     )
 

@@ -5,7 +5,8 @@ use mir.Syntax.{w32}
 use mir.Val.{toZ, ofZ}
 use Rattle.model.specs.Output.{nameOr}
 use Rattle.lookups.specs.Laws.{shownName}
-use Rattle.replay.proofs.Written.{copied-front, named-mark, name-there}
+use Rattle.word.proofs.Writes.{copied-front}
+use Rattle.replay.proofs.Written.{named-mark, name-there}
 use Rattle.replay.proofs.told.zone.Statement.{statement}
 use Rattle.replay.proofs.told.zone.Tie as tie
 
