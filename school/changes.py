@@ -234,7 +234,7 @@ def show(name, zones, windows, rows, how):
     local = local_moment(rows[0])
     shows = "there is no local time: panels show none"
     if local is not None:
-        shows = f"a right clock shows {local_text(local)}"
+        shows = f"a correctly set clock shows {local_text(local)}"
     lines = [f"{name}: {counted(zones, 'zone')}, {counted(windows, 'window')}"]
     lines += wrapped(f"At {utc_text(rows[0].moment)} ({how}) {shows}.")
     lines += wrapped(f"Zone {zone_text(zone_at(zones, rows[0].moment))}")

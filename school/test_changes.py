@@ -360,7 +360,7 @@ class Shown(unittest.TestCase):
     def test_a_year(self):
         self.assertEqual(shown('zone +01:00 from beginning "Europe/Amsterdam"\n' + YEAR, "2026-01-01T00:00Z"), f"""\
 lists: 1 zone, 1 window
-At 2026-01-01T00:00Z (test) a right clock shows Thu 2026-01-01 01:00.
+At 2026-01-01T00:00Z (test) a correctly set clock shows Thu 2026-01-01 01:00.
 Zone +01:00 "Europe/Amsterdam"
 
 UTC                local time                    offset  summer  what changes
@@ -379,7 +379,7 @@ UTC                local time                    offset  summer  what changes
         between = shown(ZONE + YEAR + "window +01:00 from 2027-03-28T01:00Z to open", after)
         run_out = shown(ZONE + YEAR.replace("2026", "2025") + YEAR, after)
         self.assertIn("between windows: the next starts 2027-03-28T01:00Z", between)
-        self.assertIn("a right clock shows Tue 2026-12-01 01:00.", between)
+        self.assertIn("a correctly set clock shows Tue 2026-12-01 01:00.", between)
         self.assertNotIn("run out", between)
         self.assertIn("there is no local time: panels show none", run_out)
         self.assertIn(RUN_OUT, run_out)
@@ -461,12 +461,12 @@ UTC                local time                    offset  summer  what changes
 
     def test_held_at_the_beginning(self):
         text = shown("zone -01:00 from beginning\nwindow +00:00 from beginning to open", "2000-01-01T00:30Z")
-        self.assertIn("a right clock shows Sat 2000-01-01 00:00.", text)
+        self.assertIn("a correctly set clock shows Sat 2000-01-01 00:00.", text)
         self.assertIn("    local time is held at the beginning\n", text)
 
     def test_held_at_the_end(self):
         text = shown(ZONE + "window +2147483647s from beginning to open", lists.utc_text(TOP))
-        self.assertIn("a right clock shows Fri +586554-01-18 08:01:49.551615.", text)
+        self.assertIn("a correctly set clock shows Fri +586554-01-18 08:01:49.551615.", text)
         self.assertIn("    local time is held at the last moment that fits\n", text)
 
     def test_names_cannot_disturb_the_terminal(self):
@@ -524,7 +524,7 @@ class Command(unittest.TestCase):
                                  ("2027-06-01T10:00Z", 7, "Tue 2027-06-01 12:00.")):
             status, out, err = command("--at", at)
             self.assertEqual((status, err), (0, ""))
-            self.assertIn(f"At {at} (given with --at) a right clock shows {local}", out)
+            self.assertIn(f"At {at} (given with --at) a correctly set clock shows {local}", out)
             self.assertIn(f"\n{count} changes are coming; the table runs out at 2030-10-27T01:00Z", out)
         self.assertIn("there is no local time", command("--at", "2031-01-01T00:00Z")[1])
 

@@ -7,7 +7,9 @@ use borrow.Author.Tests.{le-leb, ne-eqb}
 use lib.ListN.{length}
 use Rattle.model.specs.Basics.{All, run}
 use Rattle.model.specs.Lists.{Lists, empty}
-use Rattle.model.specs.Answers.{answers}
+use Rattle.model.specs.declared.Refusal.the-variants.{BadLimits}
+use Rattle.model.specs.Numbers.{refusalNumber}
+use Rattle.model.specs.Answers.{answers, done, numberOf}
 use Rattle.model.specs.Rules.{Rules, allowed}
 use Rattle.model.specs.Lookups as L
 use Rattle.model.specs.Walk as W
@@ -76,8 +78,8 @@ made s mark r build period n m a =
     newBy : Bool → C.Called
     newBy b =
         cond (C.makes s (not b) (r .zoneLimit) (r .windowLimit))
-        (record { returned = 0; image = newImage s (not b) (r .zoneLimit) (r .windowLimit) build period })
-        (record { returned = 8; image = s })
+        (record { returned = numberOf done; image = newImage s (not b) (r .zoneLimit) (r .windowLimit) build period })
+        (record { returned = refusalNumber BadLimits; image = s })
 
 new-stands : (s : List ℕ) (mark : ℕ) (r : Rules) (build period : ℕ) → imageSize ≤ length s → (mark ≡ 0 → ⊥) → allowed r ≡ true → IsMoment build → IsMoment period
     → Stands r empty (newOf s mark r build period)

@@ -7,9 +7,9 @@ use lib.Dec.{leb, eqb}
 use lib.ListN.{length}
 use Rattle.model.specs.declared.TimeGranularity.{TimeGranularity}
 use Rattle.model.specs.declared.TimeSource.{TimeSource}
-use Rattle.model.specs.declared.Refusal.the-variants.{Unreadable, InvalidCommand}
-use Rattle.model.specs.Numbers.{granularityOf, sourceOf}
-use Rattle.model.specs.Answers.{numberOf, TrustedSource, Result, unchanged}
+use Rattle.model.specs.declared.Refusal.the-variants.{Unreadable, InvalidCommand, BadLimits}
+use Rattle.model.specs.Numbers.{granularityOf, sourceOf, refusalNumber}
+use Rattle.model.specs.Answers.{numberOf, done, TrustedSource, Result, unchanged}
 use Rattle.model.specs.Codes.{returned}
 use Rattle.model.specs.Rules.{allowed}
 use Rattle.model.specs.Output.{copiedOver, stores, leaves, truth}
@@ -79,8 +79,9 @@ makes s there zones windows = (not there || allowed (record { zoneLimit = zones;
 -- the mark of a list store is any number but 0
 unfoldable pub new : List ℕ → ℕ → ℕ → ℕ → ℕ → ℕ → Called
 new s mark zones windows build period =
-    cond (makes s (not (eqb mark 0)) zones windows) (record { returned = 0; image = newImage s (not (eqb mark 0)) zones windows build period })
-    (record { returned = 8; image = s })
+    cond (makes s (not (eqb mark 0)) zones windows)
+    (record { returned = numberOf done; image = newImage s (not (eqb mark 0)) zones windows build period })
+    (record { returned = refusalNumber BadLimits; image = s })
 
 -- ## Commands on the clock
 

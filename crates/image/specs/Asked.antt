@@ -18,14 +18,14 @@ module _ {A : Type 0} where
 
   -- ## Readings
 
-  -- bytes that are no image are refused with BadLimits
+  -- a buffer that is not an image is refused with BadLimits
   abbrev pub asked : List ℕ → Answer A → Answer A
   asked s a = cond (isImage s) a (refused BadLimits)
 
 -- ## Calls with effects
 
 module _ {A : Type 0} where
-  -- bytes that are no image: nothing changes
+  -- a buffer that is not an image: nothing changes
   abbrev pub askedOf : List ℕ → Result Device A → Result Device A
   askedOf s r = cond (isImage s) r (unchanged (deviceIn s) BadLimits)
 

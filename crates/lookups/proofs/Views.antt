@@ -19,7 +19,7 @@ use Rattle.model.proofs.Maybe.{moment-back}
 use Rattle.word.specs.Place.{byteAt, wordAt}
 use Rattle.table.specs.Layout.{markAt, maybeAt, zoneCountPlace, windowCountPlace, zonePlace, windowPlace, zoneAt, windowAt, entriesFrom, zoneCount, windowCount, zonesIn, windowsIn}
 use Rattle.table.proofs.Counts.{count-most}
-use Rattle.lookups.specs.Shown.{shownAt, blankShown, shownBy, zoneIndices, activeIndex, listedOf, zoneListedIn, windowEntry, windowListed, windowListedIn}
+use Rattle.lookups.specs.Shown.{shownAt, blankShown, shownBy, zoneIndices, activeIndex, listedOf, zoneListedIn, windowShown, windowListed, windowListedIn}
 use Rattle.lookups.specs.Laws.{zoneNowIn, zoneIn, zoneListedOf, windowListedOf, ActiveShown, ZoneListedMeans, WindowListedMeans}
 use Rattle.lookups.proofs.Entries.{length-entries, entry-here, by-index, at-past}
 use Rattle.lookups.proofs.Maps.{last-map, keep-map}
@@ -89,7 +89,7 @@ module _ (s : List ℕ) (i : ℕ) where
   unfolding zoneListedIn
   listed-past h = rw (le-ltb i (zoneCount s) h)
 
-  pub window-there : i < windowCount s → windowListedIn s i ≡ windowListed (some (windowEntry (windowWithIndex s i)))
+  pub window-there : i < windowCount s → windowListedIn s i ≡ windowListed (some (windowShown (windowWithIndex s i)))
   unfolding windowListedIn
   window-there h = rw (lt-ltb i (windowCount s) h)
 
@@ -124,7 +124,7 @@ zone-listed s i = listed-means s i (zoneCount s)
 abbrev windowWith : ℤ → ℕ → Option ℕ → Window
 windowWith o t u = record { offset = o; start = t; until = u }
 
-listed-window : (w : Window) → windowListedOf (windowListed (some (windowEntry w))) ≡ some w
+listed-window : (w : Window) → windowListedOf (windowListed (some (windowShown w))) ≡ some w
 listed-window w = ap (λ (u : Option ℕ). some (windowWith (w .offset) (w .start) u)) (moment-back (w .until))
 
 pub window-listed : WindowListedMeans

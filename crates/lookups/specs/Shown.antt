@@ -65,12 +65,12 @@ zoneListedIn s i = listedOf s i (zoneCount s)
 -- ## Windows
 
 -- a window by value
-abbrev pub windowEntry : Window → DSTOffsetEntry
-windowEntry w = record { offset = w .offset; «valid_starting» = w .start; «valid_until» = maybeU64 (w .until) }
+abbrev pub windowShown : Window → DSTOffsetEntry
+windowShown w = record { offset = w .offset; «valid_starting» = w .start; «valid_until» = maybeU64 (w .until) }
 
 -- no window: offset 0 from moment 0 with no end
 abbrev pub blankWindow : DSTOffsetEntry
-blankWindow = windowEntry (record { offset = pos 0; start = 0; until = none })
+blankWindow = windowShown (record { offset = pos 0; start = 0; until = none })
 
 -- a window of the listing, or none with the blank one in its place
 abbrev pub windowListed : Option DSTOffsetEntry → DSTOffsetListed
@@ -79,4 +79,4 @@ windowListed (some w) = record { there = true; window = w }
 
 -- the window at an index
 unfoldable pub windowListedIn : List ℕ → ℕ → DSTOffsetListed
-windowListedIn s i = windowListed (cond (ltb i (windowCount s)) (some (windowEntry (windowAt s (windowPlace i)))) none)
+windowListedIn s i = windowListed (cond (ltb i (windowCount s)) (some (windowShown (windowAt s (windowPlace i)))) none)

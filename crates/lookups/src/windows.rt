@@ -8,7 +8,7 @@ ghost use Rattle.model.specs.Lookups.{isActive, isUsable, activeOffset, lastAct
 ghost use Rattle.model.specs.Maybe.{maybeI32, maybeU64};
 ghost use Rattle.word.specs.Place.{wordAt};
 ghost use Rattle.table.specs.Layout.{tableSize, windowPlace, windowAt, listsIn};
-ghost use Rattle.lookups.specs.Shown.{windowEntry, windowListed, windowListedIn};
+ghost use Rattle.lookups.specs.Shown.{windowShown, windowListed, windowListedIn};
 use crate::DSTOffsetEntry;
 use crate::DSTOffsetListed;
 use crate::held::i32_at;
@@ -118,7 +118,7 @@ pub fn dst_table_empty(table: &[u8]) -> bool
 // The window with index i, listed.
 fn window_there(table: &[u8], i: usize) -> DSTOffsetListed
     requires { ⌜ (i < 16) × (tableSize ≤ length (now table)) ⌝ }
-    ensures { λ r. ⌜ r ≡ windowListed (some (windowEntry (windowAt (now (table .entry)) (windowPlace i)))) ⌝ }
+    ensures { λ r. ⌜ r ≡ windowListed (some (windowShown (windowAt (now (table .entry)) (windowPlace i)))) ⌝ }
 {
     let at = window_place(i);
     let window = DSTOffsetEntry {

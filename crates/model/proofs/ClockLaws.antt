@@ -1,7 +1,7 @@
 -- What a clock reads after a setting and after a load, and what stays stored.
 use mathlib.Core.Bool.{Bool, true, false, not, _||_}
 use mathlib.Core.Option.{Option, none, some}
-use mathlib.Core.Path.{_≡_, refl, ap}
+use mathlib.Core.Path.{_≡_, refl, ap, _∙_}
 use Prim.Native.Nat.{ℕ, _≤_}
 use native.Mathlib.Omega.{arith}
 use borrow.Author.Tests.{eqb-true, leb-false, not-false}
@@ -10,15 +10,16 @@ use Rattle.model.specs.declared.TimeGranularity.{TimeGranularity}
 use Rattle.model.specs.declared.TimeGranularity.the-variants.{Milliseconds}
 use Rattle.model.specs.declared.TimeSource.{TimeSource}
 use Rattle.model.specs.Basics.{isSome}
+use Rattle.model.specs.Answers.{TrustedSource}
 use Rattle.model.specs.Numbers.{granularityNumber, granularityOf}
-use Rattle.model.specs.Clock.{Clock, reliable, reading, storedUtc, noFabric, load, granularityRead, lowered, changes, isKept, setUtcTime, distance, aDayApart, setUtcTimePersist}
-use Rattle.model.specs.ClockLaws.{ReadsBack, ReadsLowered, EndsAtSeconds, NeverBelowBuild, WithinADay}
-use Rattle.model.proofs.Facts.{by-test}
+use Rattle.model.specs.Clock.{Clock, reliable, reading, storedUtc, noFabric, load, granularityRead, lowered, changes, isKept, setUtcTime, distance, aDayApart, setUtcTimePersist, sameSource, setTrustedTimeSource, setTrustedTimeSourcePersist}
+use Rattle.model.specs.ClockLaws.{SettingReadsBack, ReadsLowered, EndsAtSeconds, SettingKeepsSource, OnlySource, SourceChangeKeepsRest, NeverBelowBuild, WithinADay}
+use Rattle.model.proofs.Facts.{by-test, and-both}
 use Rattle.model.proofs.NumbersBack.{numbers-back}
 
-pub reads-back : ReadsBack
+pub setting-reads-back : SettingReadsBack
 unfolding setUtcTime reading
-reads-back c utc g s tick k h = rw k (ap reliable (omega arith))
+setting-reads-back c utc g s tick k h = rw k (ap reliable (omega arith))
 
 -- ## Granularity
 
@@ -53,6 +54,41 @@ unfolding setUtcTimePersist granularityRead
 ends-at-seconds c utc s tick =
     let h = reads-lowered c utc Milliseconds s tick in
     by-test (aDayApart c utc) (λ e. rw e h) (λ e. rw e h)
+
+-- ## The trusted source
+
+source-kept : (c : Clock) (utc : ℕ) (g : TimeGranularity) (s : TimeSource) (tick : ℕ) → setUtcTime c utc g s tick .state .trusted ≡ c .trusted
+unfolding setUtcTime
+source-kept c utc g s tick = by-test (isKept c utc g s) (λ e. rw e) (λ e. rw e)
+
+pub setting-keeps-source : SettingKeepsSource
+unfolding setUtcTimePersist
+setting-keeps-source c utc g s tick =
+    let k = source-kept c utc g s tick in
+    (k, by-test (aDayApart c utc) (λ e. rw e k) (λ e. rw e k))
+
+equal-sources : (s t : Option TrustedSource) → sameSource s t ≡ true → s ≡ t
+equal-sources none none e = refl
+equal-sources none (some t) e = cc
+equal-sources (some s) none e = cc
+equal-sources (some s) (some t) e =
+    let p = and-both (eqb (s .fabric) (t .fabric)) _ e in
+    let q = and-both (eqb (s .node) (t .node)) _ (p .1) in
+    ap some
+    (ap (λ (x : ℕ). record { fabric = x; node = s .node; endpoint = s .endpoint }) (eqb-true _ _ (p .0))
+    ∙ (ap (λ (x : ℕ). record { fabric = t .fabric; node = x; endpoint = s .endpoint }) (eqb-true _ _ (q .0))
+    ∙ ap (λ (x : ℕ). record { fabric = t .fabric; node = t .node; endpoint = x }) (eqb-true _ _ (q .1))))
+
+only-source : (c : Clock) (source : Option TrustedSource) → OnlySource c source (setTrustedTimeSource c source .state)
+unfolding setTrustedTimeSource
+only-source c source =
+    by-test (sameSource (c .trusted) source)
+    (λ e. rw e (record { utc = refl; persisted = refl; granularity = refl; from = refl; anchor = refl; trusted = equal-sources _ _ e }))
+    (λ e. rw e (record { utc = refl; persisted = refl; granularity = refl; from = refl; anchor = refl; trusted = refl }))
+
+pub source-change-keeps-rest : SourceChangeKeepsRest
+unfolding setTrustedTimeSourcePersist
+source-change-keeps-rest c source = (only-source c source, only-source c source)
 
 -- ## A load
 

@@ -16,7 +16,7 @@ use Rattle.model.specs.History.{Call, SetTimeZone, SetDSTOffset, Load, F
 use Rattle.model.specs.Store.{Store, new, timeZoneSet, setTimeZone, windowsTested, windowsRead, setDSTOffset, storeLoaded, load, factoryReset, storeAfter}
 use Rattle.model.specs.Output.{SizedCall, noSpace, afterSized, storeAfterSized}
 use Rattle.model.specs.Demand3.{Accepted, Demand3, Demand3Holds, Demand3Sized}
-use Rattle.model.proofs.Facts.{by-test, All-of, run-keeps}
+use Rattle.model.proofs.Facts.{by-test, and-both, All-of, run-keeps}
 use Rattle.model.proofs.Accepted.{kept-empty, kept-after, few-later}
 use Rattle.model.proofs.Windows.{at-most-one}
 use Rattle.model.proofs.Whole.{whole}
@@ -78,16 +78,12 @@ record New (r : Rules) (s : Store) : Type 0 where
   lists : s .lists ≡ empty
   room : 1 ≤ r .zoneLimit
 
-and-left : (a b : Bool) → a && b ≡ true → a ≡ true
-and-left true b h = refl
-and-left false b h = h
-
 made : (r : Rules) (s : Store) (t : Bool) → allowed r ≡ t
     → cond t (answers (record { rules = r; lists = empty; generation = 0 })) (refused BadLimits) ≡ answers s → New r s
 unfolding allowed
 made r s true e h =
     let q : record { rules = r; lists = empty; generation = 0 } ≡ s = cc in
-    record { rules = sym (ap (λ (x : Store). x .rules) q); lists = sym (ap (λ (x : Store). x .lists) q); room = leb-true 1 (r .zoneLimit) (and-left _ _ e) }
+    record { rules = sym (ap (λ (x : Store). x .rules) q); lists = sym (ap (λ (x : Store). x .lists) q); room = leb-true 1 (r .zoneLimit) (and-both _ _ e .0) }
 made r s false e h = let z : _≡_ {A = ℕ} 0 1 = cc in absurd (omega arith)
 
 is-new : (r : Rules) (s : Store) → new r ≡ answers s → New r s

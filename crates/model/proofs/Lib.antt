@@ -19,3 +19,5 @@ pub mod Panel
 pub mod Looks
 pub mod ClockLaws
 pub mod RetryLaws
+pub mod CodeLaws
+pub mod FewEffects

@@ -14,7 +14,7 @@ use Rattle.model.specs.Basics.{isSome, keep, when, All, run}
 use Rattle.model.specs.Answers.{Effect}
 use Rattle.model.specs.Clock.{Clock, utcReports, setUtcTime, setUtcTimePersist}
 use Rattle.model.specs.Retries.{Client, Refresh, Applied, NoTime, NoSource, Failure, refresh, firstRetry, due, marked, sourceMissing, timeMissing, eventsOf, doubled, Step, clockEffects, attemptOf, waitFor, sourceChanged, RETRY_MIN, TIME_EVENTS_INTERVAL}
-use Rattle.model.specs.RetryLaws.{Input, attempted, changed, step, clientAfter, Applies, BacksOff, Fails, PeriodStays, StartsOver, RetryDoubles, WaitDoubles, Kind, missingSource, timeFailure, emits, emittedAt, emissions, Apart, EventsApart}
+use Rattle.model.specs.RetryLaws.{Input, attempted, changed, step, clientFrom, Applies, BacksOff, Fails, PeriodStays, StartsOver, RetryDoubles, WaitDoubles, Kind, missingSource, timeFailure, emits, emittedAt, emissions, Apart, EventsApart}
 use Rattle.model.proofs.Facts.{by-test, All-map, keep-append, keep-when}
 
 -- ## One step
@@ -67,7 +67,7 @@ held m a p h =
 
 -- a retry within the period is multiplied by 2 for each failure, and held
 multiplied : (c : Client) (failures : List Input) → c .retry ≤ c .period → All Fails failures
-    → clientAfter c failures .retry ≡ min (2 ^ length failures * c .retry) (c .period)
+    → clientFrom c failures .retry ≡ min (2 ^ length failures * c .retry) (c .period)
 unfolding run
 multiplied c [] within h = omega arith
 multiplied c (i ∷ is) within h =
@@ -85,7 +85,7 @@ retry-doubles c failures first h =
     ∙ rw (first, held (2 ^ n) RETRY_MIN (c .period) (pow-pos n), mul-comm (2 ^ n) RETRY_MIN)
 
 pub wait-doubles : WaitDoubles
-wait-doubles c failures i first h fails = failed (clientAfter c failures) i fails .next ∙ ap waitFor (retry-doubles c failures first h)
+wait-doubles c failures i first h fails = failed (clientFrom c failures) i fails .next ∙ ap waitFor (retry-doubles c failures first h)
 
 -- ## Marks: an event is emitted only where its mark is at least the interval old, and its tick is the next mark
 

@@ -11,13 +11,13 @@ use lib.ListN.{length, length-append}
 use Rattle.model.specs.Basics.{All, run}
 use Rattle.model.specs.Lists.{Name, Zone, Window, Lists, empty}
 use Rattle.model.specs.Rules.{Rules, allowed, Verdict, accepted, testFrom, nameFits, zoneRule, testZones, testWindows}
-use Rattle.model.specs.Bytes.{bytes, bitsOf, nameBytes, zoneBytes, untilBytes, windowBytes, allBytes, zonesBytes, windowsBytes, recordBytes, readZones, readWindows, readRecord}
+use Rattle.model.specs.Bytes.{bytes, bitsOf, nameBytes, zoneBytes, untilBytes, windowBytes, allBytes, zonesBytes, windowsBytes, recordBytes, recordMost, readZones, readWindows, readRecord}
 use Rattle.model.specs.History.{Call, SetTimeZone, SetDSTOffset, Load, FactoryReset, recordVerdict, verdict, ifAccepted, zonesSet, windowsSet, recordLoaded, after}
 use Rattle.model.specs.Output.{SizedCall, noSpace, afterSized}
 use Rattle.model.specs.Demand3.{Accepted}
 use Rattle.model.specs.RoundTrip.{AreBytes, ZonesFit, WindowsFit, ListsFit, ReadsBack, AcceptedReadsBack, CallBytes, StoredReadsBack, StoredReadsBackSized}
 use Rattle.model.proofs.Accepted.{entry, zone-meets, accepted-record, kept-empty, kept-after, either, zones-fit, windows-fit}
-use Rattle.model.proofs.Facts.{by-test, run-keeps}
+use Rattle.model.proofs.Facts.{by-test, and-both, run-keeps}
 use Rattle.model.proofs.Words.{length-bytes}
 use Rattle.model.proofs.ReadBack.{zones-written, windows-written, record-written}
 use Rattle.model.proofs.WriteBack.{record-back}
@@ -67,7 +67,7 @@ unfolding allBytes
 windows-short [] = lit≤ tt
 windows-short (w ∷ ws) = omega (arith, length-append (windowBytes w) (allBytes windowBytes ws), window-short w, windows-short ws)
 
-short : (r : Rules) (l : Lists) → r .zoneLimit ≤ 8 → r .windowLimit ≤ 16 → Accepted r l → length (recordBytes l) ≤ 962
+short : (r : Rules) (l : Lists) → r .zoneLimit ≤ 8 → r .windowLimit ≤ 16 → Accepted r l → length (recordBytes l) ≤ recordMost
 unfolding recordBytes zonesBytes windowsBytes testZones
 short r l z w k =
     omega (
@@ -93,10 +93,6 @@ module _ (r : Rules) (l : Lists) (k : Accepted r l) (e : readRecord (recordBytes
 record Limits (r : Rules) : Type 0 where
   zones : r .zoneLimit ≤ 8
   windows : r .windowLimit ≤ 16
-
-and-both : (a b : Bool) → a && b ≡ true → (a ≡ true) × (b ≡ true)
-and-both true b h = (refl, h)
-and-both false b h = (h, cc)
 
 limits : (r : Rules) → allowed r ≡ true → Limits r
 unfolding allowed

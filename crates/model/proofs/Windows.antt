@@ -13,12 +13,8 @@ use Rattle.model.specs.Lists.{Window}
 use Rattle.model.specs.Rules.{accepted, testFrom, windowRule, reached, testWindows}
 use Rattle.model.specs.Lookups.{notEnded, isActive, activeWindow, lastActiveWindow}
 use Rattle.model.specs.Claims.{AtMostOneActive}
-use Rattle.model.proofs.Facts.{by-test}
+use Rattle.model.proofs.Facts.{by-test, and-both}
 use Rattle.model.proofs.Accepted.{entry, window-meets}
-
-and-right : (a b : Bool) → a && b ≡ true → b ≡ true
-and-right true b h = h
-and-right false b h = let z : _≡_ {A = Bool} false true = h in cc
 
 -- a window that starts at or after the end `u`, which is still to come, starts later
 starts-later : (now start : ℕ) (u : Option ℕ) → reached start u ≡ true → notEnded now u ≡ true → now < start
@@ -56,7 +52,7 @@ module _ (limit now : ℕ) where
   one index before (w ∷ ws) h =
       let e = entry limit windowRule index before w ws h in
       by-test (isActive now w)
-      (λ t. rw (t, none-after (suc index) w ws (e .rest) (and-right (leb (w .start) now) _ t)) (omega arith))
+      (λ t. rw (t, none-after (suc index) w ws (e .rest) (and-both (leb (w .start) now) _ t .1)) (omega arith))
       (λ f. rw f (one (suc index) (some w) ws (e .rest)))
 
 pub at-most-one : AtMostOneActive

@@ -6,6 +6,7 @@ use Prim.Native.Nat.{ℕ}
 use lib.IntN.{ℤ}
 use Rattle.model.specs.declared.Refusal.{Refusal}
 use Rattle.model.specs.Numbers.{refusalNumber}
+use Rattle.model.specs.Basics.{Moment}
 use Rattle.model.specs.Lists.{Name}
 
 -- ## Answers
@@ -86,7 +87,7 @@ pub data Effect : Type 0 where
   storeRecord : Effect
   removeRecord : Effect
   -- the last-known moment
-  storeMoment : ℕ → Effect
+  storeMoment : Moment → Effect
   removeMoment : Effect
   storeSource : TrustedSource → Effect
   removeSource : Effect

@@ -114,6 +114,10 @@ windowsBytes ws = sectionBytes windowBytes ws
 unfoldable pub recordBytes : Lists → List ℕ
 recordBytes l = zonesBytes (l .zones) ++ windowsBytes (l .windows)
 
+-- the record buffer: how many bytes the largest record of accepted lists has
+abbrev pub recordMost : ℕ
+recordMost = 962
+
 -- ## What is read
 
 -- what a reader takes off the front of the bytes, and the bytes that are left; none where they are unreadable

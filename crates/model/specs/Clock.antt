@@ -10,18 +10,18 @@ use Rattle.model.specs.declared.TimeSource.{TimeSource}
 use Rattle.model.specs.declared.TimeSource.the-variants as S
 use Rattle.model.specs.declared.Refusal.the-variants.{BadRecord}
 use Rattle.model.specs.Numbers.{granularityNumber, sourceNumber}
-use Rattle.model.specs.Basics.{heldAtTop, isSome, when}
+use Rattle.model.specs.Basics.{Moment, Tick, heldAtTop, isSome, when}
 use Rattle.model.specs.Answers.{answers, done, Attribute, UTCTime, Granularity, TrustedTimeSource, MissingTrustedTimeSource, TrustedSource, Effect, report, emit, storeMoment, removeMoment, storeSource, removeSource, Result, unchanged}
 
 pub record Clock : Type 0 where
   -- the UTC number: the moment last set, or the last known one
-  pub utc : ℕ
+  pub utc : Moment
   -- the moment that flash holds
-  pub persisted : ℕ
+  pub persisted : Moment
   pub granularity : TimeGranularity
   pub source : TimeSource
   -- the tick of the last setting; none until the clock is set
-  pub anchor : Option ℕ
+  pub anchor : Option Tick
   pub trusted : Option TrustedSource
 
 -- ## Fresh and reset
@@ -72,8 +72,8 @@ load build c moment source =
 -- ## Reading (`utc_time`)
 
 pub data Reading : Type 0 where
-  reliable : ℕ → Reading
-  lastKnown : ℕ → Reading
+  reliable : Moment → Reading
+  lastKnown : Moment → Reading
 
 -- with an anchor the UTC number and the ticks since, held at the top (`tick - at` is 0 for a tick before the anchor); with none the last known number
 abbrev pub readingAt : Option ℕ → ℕ → ℕ → Reading

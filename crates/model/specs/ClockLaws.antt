@@ -8,13 +8,13 @@ use Rattle.model.specs.declared.TimeGranularity.the-variants.{Seconds, M
 use Rattle.model.specs.declared.TimeSource.{TimeSource}
 use Rattle.model.specs.Basics.{top}
 use Rattle.model.specs.Answers.{done, TrustedSource}
-use Rattle.model.specs.Clock.{Clock, Reading, reliable, lastKnown, reading, load, granularityRead, lowered, isKept, setUtcTime, distance, setUtcTimePersist}
+use Rattle.model.specs.Clock.{Clock, Reading, reliable, lastKnown, reading, load, granularityRead, lowered, isKept, setUtcTime, distance, setUtcTimePersist, setTrustedTimeSource, setTrustedTimeSourcePersist}
 
 -- ## Settings and readings
 
 -- a setting that is kept reads back at its tick
-abbrev pub ReadsBack : Type 0
-ReadsBack =
+abbrev pub SettingReadsBack : Type 0
+SettingReadsBack =
     (c : Clock) (utc : ℕ) (g : TimeGranularity) (s : TimeSource) (tick : ℕ)
     → isKept c utc g s ≡ true → utc ≤ top → reading (setUtcTime c utc g s tick .state) tick ≡ reliable utc
 
@@ -29,6 +29,31 @@ abbrev pub EndsAtSeconds : Type 0
 EndsAtSeconds =
     (c : Clock) (utc : ℕ) (s : TimeSource) (tick : ℕ)
     → granularityRead (setUtcTimePersist c utc Milliseconds s tick .state) ≡ Seconds
+
+-- ## The trusted source
+
+-- a setting keeps the trusted source, whether the moment is stored or not
+abbrev pub SettingKeepsSource : Type 0
+SettingKeepsSource =
+    (c : Clock) (utc : ℕ) (g : TimeGranularity) (s : TimeSource) (tick : ℕ)
+    → (setUtcTime c utc g s tick .state .trusted ≡ c .trusted) × (setUtcTimePersist c utc g s tick .state .trusted ≡ c .trusted)
+
+-- the clock `d` is `c` with this trusted source and nothing else new
+pub record OnlySource (c : Clock) (source : Option TrustedSource) (d : Clock) : Type 0 where
+  pub utc : d .utc ≡ c .utc
+  pub persisted : d .persisted ≡ c .persisted
+  pub granularity : d .granularity ≡ c .granularity
+  pub from : d .source ≡ c .source
+  pub anchor : d .anchor ≡ c .anchor
+  pub trusted : d .trusted ≡ source
+
+-- a source change leaves the source that it was given and keeps the rest of the clock
+abbrev pub SourceChangeKeepsRest : Type 0
+SourceChangeKeepsRest =
+    (c : Clock) (source : Option TrustedSource)
+    → OnlySource c source (setTrustedTimeSource c source .state) × OnlySource c source (setTrustedTimeSourcePersist c source .state)
+
+-- ## Loading
 
 -- a last known moment that is not before the build moment
 abbrev pub LastKnownFrom : ℕ → Reading → Type 0

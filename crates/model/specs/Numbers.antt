@@ -35,9 +35,9 @@ unfoldable pub granularityOf : ℕ → Option TimeGranularity
 granularityOf n = getElem? granularities n
 
 -- what the enum `GranularityRead` stands for
-abbrev pub granularityRead : GranularityRead → Option TimeGranularity
-granularityRead (GR.Is g) = some g
-granularityRead GR.Bad = none
+abbrev pub optionGranularity : GranularityRead → Option TimeGranularity
+optionGranularity (GR.Is g) = some g
+optionGranularity GR.Bad = none
 
 -- ## Time sources, 0 to 16
 
@@ -72,9 +72,9 @@ unfoldable pub sourceOf : ℕ → Option TimeSource
 sourceOf n = getElem? sources n
 
 -- what the enum `SourceRead` stands for
-abbrev pub sourceRead : SourceRead → Option TimeSource
-sourceRead (SR.Is s) = some s
-sourceRead SR.Bad = none
+abbrev pub optionTimeSource : SourceRead → Option TimeSource
+optionTimeSource (SR.Is s) = some s
+optionTimeSource SR.Bad = none
 
 -- ## Refusals, 1 to 9; a call that is not turned down has number 0
 
@@ -102,6 +102,6 @@ refusalOf zero = none
 refusalOf (suc n) = getElem? refusals n
 
 -- what the enum `RefusalRead` stands for
-abbrev pub refusalRead : RefusalRead → Option Refusal
-refusalRead (RR.Is r) = some r
-refusalRead RR.Bad = none
+abbrev pub optionRefusal : RefusalRead → Option Refusal
+optionRefusal (RR.Is r) = some r
+optionRefusal RR.Bad = none

@@ -8,7 +8,7 @@ use Rattle.model.specs.declared.TimeGranularity.{TimeGranularity}
 use Rattle.model.specs.declared.TimeGranularity.the-variants as G
 use Rattle.model.specs.declared.TimeSource.the-variants.{NodeTimeCluster}
 use Rattle.model.specs.Numbers.{granularityOf}
-use Rattle.model.specs.Basics.{isSome, when}
+use Rattle.model.specs.Basics.{Moment, Tick, isSome, when}
 use Rattle.model.specs.Answers.{Effect, emit, MissingTrustedTimeSource, TimeFailure}
 use Rattle.model.specs.Clock.{Clock, setUtcTimePersist}
 
@@ -24,8 +24,8 @@ TIME_EVENTS_INTERVAL = 3600000000
 pub record Client : Type 0 where
   pub period : ℕ
   pub retry : ℕ
-  pub missingAt : Option ℕ
-  pub failureAt : Option ℕ
+  pub missingAt : Option Tick
+  pub failureAt : Option Tick
 
 -- first retry: the smaller of RETRY_MIN and the period
 abbrev pub firstRetry : ℕ → ℕ
@@ -39,7 +39,7 @@ newClient period = record { period = period; retry = firstRetry period; missingA
 
 -- a source's reading: a moment or null, and the number of a granularity, which may be missing
 pub record Told : Type 0 where
-  pub utc : Option ℕ
+  pub utc : Option Moment
   pub granularity : Option ℕ
 
 -- outcome: a reading, or the fact that the exchange failed
@@ -49,7 +49,7 @@ pub data Outcome : Type 0 where
 
 -- what an attempt got
 pub data Refresh : Type 0 where
-  Applied : ℕ → TimeGranularity → Refresh
+  Applied : Moment → TimeGranularity → Refresh
   NoTime : Refresh
   NoSource : Refresh
   Failure : Refresh

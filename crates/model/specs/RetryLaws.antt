@@ -26,8 +26,8 @@ step c (attempted k o tick) = attempt c k o tick
 step c (changed k tick) = sourceChanged c k
 
 -- the client after a run
-abbrev pub clientAfter : Client → List Input → Client
-clientAfter c is = run (λ d i. step d i .client) c is
+abbrev pub clientFrom : Client → List Input → Client
+clientFrom c is = run (λ d i. step d i .client) c is
 
 -- ## What an attempt gets
 
@@ -111,14 +111,14 @@ waitAfter k c = min (RETRY_MIN * 2 ^ k) (c .period)
 abbrev pub RetryDoubles : Type 0
 RetryDoubles =
     (c : Client) (failures : List Input)
-    → c .retry ≡ firstRetry (c .period) → All Fails failures → clientAfter c failures .retry ≡ waitAfter (length failures) c
+    → c .retry ≡ firstRetry (c .period) → All Fails failures → clientFrom c failures .retry ≡ waitAfter (length failures) c
 
 -- and so long the failure after k failures in a row waits
 abbrev pub WaitDoubles : Type 0
 WaitDoubles =
     (c : Client) (failures : List Input) (i : Input)
     → c .retry ≡ firstRetry (c .period) → All Fails failures → Fails i
-    → step (clientAfter c failures) i .next ≡ waitFor (waitAfter (length failures) c)
+    → step (clientFrom c failures) i .next ≡ waitFor (waitAfter (length failures) c)
 
 -- ## Events
 

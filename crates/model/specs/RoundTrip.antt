@@ -9,7 +9,7 @@ use lib.ListN.{length}
 use Rattle.model.specs.Basics.{All}
 use Rattle.model.specs.Lists.{Name, Zone, Window, Lists}
 use Rattle.model.specs.Rules.{Rules, allowed, accepted}
-use Rattle.model.specs.Bytes.{wellFormed, zonesBytes, windowsBytes, recordBytes, readZones, readWindows, readRecord}
+use Rattle.model.specs.Bytes.{wellFormed, zonesBytes, windowsBytes, recordBytes, recordMost, readZones, readWindows, readRecord}
 use Rattle.model.specs.History.{Call, SetTimeZone, SetDSTOffset, Load, FactoryReset, verdict, after, listsAfter}
 use Rattle.model.specs.Output.{SizedCall, listsAfterSized}
 use Rattle.model.specs.Demand3.{Accepted}
@@ -89,8 +89,7 @@ pub record ReadsBack (r : Rules) (l : Lists) : Type 0 where
   pub reads : readRecord (recordBytes l) ≡ some l
   pub taken : verdict r (Load (some (recordBytes l))) ≡ accepted
   pub again : (old : Lists) → after r old (Load (some (recordBytes l))) ≡ l
-  -- the record buffer has 962 bytes
-  pub short : length (recordBytes l) ≤ 962
+  pub short : length (recordBytes l) ≤ recordMost
 
 -- `accepted-reads-back` in proofs/Stored.antt
 abbrev pub AcceptedReadsBack : Type 0

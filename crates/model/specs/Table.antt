@@ -14,20 +14,21 @@ use Rattle.model.specs.Lookups.{ZoneNow, activeZone, usable}
 use Rattle.model.specs.Clock.{Clock, fresh, withTrusted, reliable}
 use Rattle.model.specs.LocalTime.{localTime}
 use Rattle.model.specs.Timer.{Timer, Sleep, atMost, look}
+use Rattle.model.specs.Demand3.{Accepted}
 use Rattle.model.specs.Retries.{Client, newClient, failed, attempt, Next, waitFor}
 
 -- ## The kinds of rows
 
 pub data Row : Type 0 where
-  -- at every moment these lists show this zone, are usable or not, and give this LocalTime
+  -- the device accepts these lists; at every moment they show this zone, are usable or not, and give this LocalTime
   always : Lists → ZoneNow → Bool → Option ℕ → Row
-  -- at this UTC these lists give this LocalTime
+  -- the device accepts these lists, and at this UTC they give this LocalTime
   localAt : Lists → ℕ → Option ℕ → Row
   -- SetTimeZone says this of these zones
   zonesAre : List Zone → Verdict → Row
   -- SetDSTOffset says this of these windows
   windowsAre : List Window → Verdict → Row
-  -- with these lists, at this moment, the timer sleeps so, whatever it saw before
+  -- the device accepts these lists, and with them at this moment the timer sleeps so, whatever it saw before
   sleepsAt : Lists → ℕ → Sleep → Row
   -- with this period, what comes after each of five attempts that fail in a row
   waitsAre : ℕ → List Next → Row
@@ -44,11 +45,11 @@ waits (suc n) c = attempt c sourced failed 0 .next ∷ waits n (attempt c source
 -- what a row claims
 abbrev pub Holds : Row → Type 0
 Holds (always l zone u local) =
-    (now : ℕ) → (activeZone l now ≡ zone) × (usable l now ≡ u) × (localTime (reliable now) (some l) ≡ answers local)
-Holds (localAt l utc local) = localTime (reliable utc) (some l) ≡ answers local
+    Accepted device l × ((now : ℕ) → (activeZone l now ≡ zone) × (usable l now ≡ u) × (localTime (reliable now) (some l) ≡ answers local))
+Holds (localAt l utc local) = Accepted device l × (localTime (reliable utc) (some l) ≡ answers local)
 Holds (zonesAre zs v) = testZones device zs ≡ v
 Holds (windowsAre ws v) = testWindows device ws ≡ v
-Holds (sleepsAt l now sleep) = (timer : Timer) → look timer (some l) (reliable now) .sleep ≡ sleep
+Holds (sleepsAt l now sleep) = Accepted device l × ((timer : Timer) → look timer (some l) (reliable now) .sleep ≡ sleep)
 Holds (waitsAre period ns) = waits 5 (newClient period) ≡ ns
 
 -- ## Short words for the rows

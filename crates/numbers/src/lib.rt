@@ -1,6 +1,6 @@
 // The numbers of granularities, time sources and refusals, and what a number from outside names.
 ghost use mathlib.Core.Path.{_≡_};
-ghost use Rattle.model.specs.Numbers.{granularityNumber, granularityRead, granularityOf, sourceNumber, sourceRead, sourceOf, refusalNumber, refusalRead, refusalOf};
+ghost use Rattle.model.specs.Numbers.{granularityNumber, optionGranularity, granularityOf, sourceNumber, optionTimeSource, sourceOf, refusalNumber, optionRefusal, refusalOf};
 use model::GranularityRead;
 use model::Refusal;
 use model::RefusalRead;
@@ -23,7 +23,7 @@ pub fn granularity_number(g: TimeGranularity) -> u8
 
 // The granularity of a number from outside.
 pub fn granularity_of(n: u8) -> GranularityRead
-    ensures { λ r. ⌜ granularityRead r ≡ granularityOf n ⌝ }
+    ensures { λ r. ⌜ optionGranularity r ≡ granularityOf n ⌝ }
 {
     match n {
         0 => GranularityRead::Is(TimeGranularity::NoTime),
@@ -62,7 +62,7 @@ pub fn source_number(s: TimeSource) -> u8
 
 // The time source of a number from outside.
 pub fn source_of(n: u8) -> SourceRead
-    ensures { λ r. ⌜ sourceRead r ≡ sourceOf n ⌝ }
+    ensures { λ r. ⌜ optionTimeSource r ≡ sourceOf n ⌝ }
 {
     match n {
         0 => SourceRead::Is(TimeSource::None),
@@ -105,7 +105,7 @@ pub fn refusal_number(r: Refusal) -> u8
 
 // The refusal of a number.
 pub fn refusal_of(n: u8) -> RefusalRead
-    ensures { λ r. ⌜ refusalRead r ≡ refusalOf n ⌝ }
+    ensures { λ r. ⌜ optionRefusal r ≡ refusalOf n ⌝ }
 {
     match n {
         0 => RefusalRead::Bad,

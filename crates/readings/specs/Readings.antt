@@ -1,4 +1,4 @@
--- What is read of the device that an image stands for; bytes that are no image are refused with BadLimits.
+-- What is read of the device that an image stands for; a buffer that is not an image is refused with BadLimits.
 use mathlib.Core.Bool.{Bool}
 use mathlib.Core.List.{List}
 use mathlib.Core.Option.{Option}

@@ -16,7 +16,7 @@ use image::place::has_lists;
 use image::place::is_image;
 use model::MaybeU64;
 
-// Whether the lists of an image can be read: bytes that are no image come first, then an image without a list store.
+// Whether the lists of an image can be read: a buffer that is not an image comes first, then an image without a list store.
 fn lists_refusal(image: &[u8]) -> u64
     ensures { λ r. ⌜ r ≡ listsRefusal (now (image .entry)) ⌝ }
 {

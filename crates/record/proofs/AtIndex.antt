@@ -9,7 +9,7 @@ use lib.ListN.{length, drop, getD}
 use Rattle.model.specs.Lists.{Name, Zone, Window}
 use Rattle.model.specs.Bytes.{Front, readZone, readWindow, readSection, readZones, readWindows}
 use Rattle.model.proofs.Maybe.{moment-back}
-use Rattle.record.specs.Fronts.{zoneFound, zoneAt, windowFound, windowAt, nextZone, zoneFrom, zoneEntry, nextWindow, windowFrom, windowEntry}
+use Rattle.record.specs.Fronts.{zoneFound, zoneAt, windowFound, windowAt, nextZone, zoneFrom, sectionZone, nextWindow, windowFrom, sectionWindow}
 use Rattle.record.specs.RoundTrip.{zoneRead, windowRead, ZoneIndexed, WindowIndexed}
 use Rattle.record.proofs.Front.{place-drop}
 use Rattle.record.proofs.Suffix.{zone-leaves, window-leaves}
@@ -39,7 +39,7 @@ module _ (s : List ℕ) where
       ∙ ap (λ (u : Option ℕ). some (record { offset = w .offset; start = w .start; until = u })) (moment-back (w .until))
 
 pub zone-indexed : ZoneIndexed
-unfolding zoneEntry readZones
+unfolding sectionZone readZones
 zone-indexed s zs h i l =
     let e = whole-is (readSection readZone s) zs h in
     let c = section-read readZone zone-leaves s 0 zs [] e in
@@ -48,7 +48,7 @@ zone-indexed s zs h i l =
     rw (lt-ltb i (getD s 0 0) q) (ap (λ (o : Option ℕ). zoneRead s (zoneFrom s o)) (x .place) ∙ zone-there s (x .at) (x .entry) (x .left) (x .read) ∙ sym (x .is))
 
 pub window-indexed : WindowIndexed
-unfolding windowEntry readWindows
+unfolding sectionWindow readWindows
 window-indexed s ws h i l =
     let e = whole-is (readSection readWindow s) ws h in
     let c = section-read readWindow window-leaves s 0 ws [] e in

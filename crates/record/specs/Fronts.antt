@@ -138,8 +138,8 @@ zoneFrom s none = Z.Unreadable
 zoneFrom s (some at) = zoneAt s at
 
 -- the zone of an index below the count; else unreadable
-unfoldable pub zoneEntry : List ℕ → ℕ → TimeZoneRead
-zoneEntry s i = cond (ltb i (getD s 0 0)) (zoneFrom s (placeAfter (λ at. nextZone (zoneAt s at)) i)) Z.Unreadable
+unfoldable pub sectionZone : List ℕ → ℕ → TimeZoneRead
+sectionZone s i = cond (ltb i (getD s 0 0)) (zoneFrom s (placeAfter (λ at. nextZone (zoneAt s at)) i)) Z.Unreadable
 
 abbrev pub nextWindow : DSTOffsetRead → Option ℕ
 nextWindow W.Unreadable = none
@@ -149,5 +149,5 @@ abbrev pub windowFrom : List ℕ → Option ℕ → DSTOffsetRead
 windowFrom s none = W.Unreadable
 windowFrom s (some at) = windowAt s at
 
-unfoldable pub windowEntry : List ℕ → ℕ → DSTOffsetRead
-windowEntry s i = cond (ltb i (getD s 0 0)) (windowFrom s (placeAfter (λ at. nextWindow (windowAt s at)) i)) W.Unreadable
+unfoldable pub sectionWindow : List ℕ → ℕ → DSTOffsetRead
+sectionWindow s i = cond (ltb i (getD s 0 0)) (windowFrom s (placeAfter (λ at. nextWindow (windowAt s at)) i)) W.Unreadable

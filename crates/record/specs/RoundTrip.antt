@@ -1,12 +1,13 @@
 -- What the answers of the readers mean, and that writing and reading undo each other.
+use mathlib.Core.Bool.{true}
 use mathlib.Core.List.{List, []}
 use mathlib.Core.Option.{Option, none, some}
 use mathlib.Core.Path.{_≡_}
 use Prim.Native.Nat.{ℕ, _+_, _≤_, _<_}
 use lib.ListN.{length, take, drop, getElem?}
 use Rattle.model.specs.Lists.{Zone, Window, Lists}
-use Rattle.model.specs.Rules.{largest}
-use Rattle.model.specs.Bytes.{readZone, readWindow, readAll, readZones, readWindows, recordBytes, readRecord}
+use Rattle.model.specs.Rules.{Rules, allowed}
+use Rattle.model.specs.Bytes.{readZone, readWindow, readAll, readZones, readWindows, recordBytes, recordMost, readRecord}
 use Rattle.model.specs.Demand3.{Accepted}
 use Rattle.model.specs.RoundTrip.{AreBytes, ListsFit}
 use Rattle.model.specs.Maybe.{optionU64}
@@ -19,7 +20,7 @@ use Rattle.record.specs.declared.SectionRead.the-variants as S
 use Rattle.record.specs.declared.RecordRead.the-variants as R
 use Rattle.record.specs.declared.Record.{Record}
 use Rattle.record.specs.Data.{zoneNamed}
-use Rattle.record.specs.Fronts.{zonesWhole, windowsWhole, recordAt, zoneEntry, windowEntry}
+use Rattle.record.specs.Fronts.{zonesWhole, windowsWhole, recordAt, sectionZone, sectionWindow}
 use Rattle.record.specs.Written.{recordOf}
 
 -- ## Requests
@@ -47,12 +48,12 @@ abbrev pub windowRead : DSTOffsetRead → Option Window
 windowRead W.Unreadable = none
 windowRead (W.Entry o t u next) = some (record { offset = o; start = t; until = optionU64 u })
 
--- entry `i` of a readable section is its `i`th: `zone-indexed` and `window-indexed` in proofs/Meaning.antt
+-- entry `i` of a readable section is its `i`th: `zone-indexed` and `window-indexed` in proofs/AtIndex.antt
 abbrev pub ZoneIndexed : Type 0
-ZoneIndexed = (s : List ℕ) (zs : List Zone) → readZones s ≡ some zs → (i : ℕ) → i < length zs → zoneRead s (zoneEntry s i) ≡ getElem? zs i
+ZoneIndexed = (s : List ℕ) (zs : List Zone) → readZones s ≡ some zs → (i : ℕ) → i < length zs → zoneRead s (sectionZone s i) ≡ getElem? zs i
 
 abbrev pub WindowIndexed : Type 0
-WindowIndexed = (s : List ℕ) (ws : List Window) → readWindows s ≡ some ws → (i : ℕ) → i < length ws → windowRead (windowEntry s i) ≡ getElem? ws i
+WindowIndexed = (s : List ℕ) (ws : List Window) → readWindows s ≡ some ws → (i : ℕ) → i < length ws → windowRead (sectionWindow s i) ≡ getElem? ws i
 
 -- ## Records
 
@@ -74,10 +75,14 @@ pub record RecordMeans (s : List ℕ) : Type 0 where
 abbrev pub bytesOf : Record → List ℕ
 bytesOf r = take (r .length) (r .bytes)
 
--- the record of lists that fit, written to the buffer, reads back as the lists: `written-reads` in proofs/Again.antt
+-- at limits that are allowed the record of accepted lists fits the buffer and reads back as the lists: `written-reads` in proofs/Again.antt
 abbrev pub WrittenReads : Type 0
-WrittenReads = (l : Lists) → ListsFit l → length (recordBytes l) ≤ 962 → readRecord (bytesOf (recordOf l)) ≡ some l
+WrittenReads =
+    (r : Rules) (l : Lists) → allowed r ≡ true → Accepted r l → ListsFit l
+    → (length (recordBytes l) ≤ recordMost) × (readRecord (bytesOf (recordOf l)) ≡ some l)
 
--- a record that is read and accepted is written back byte for byte: `read-writes` in proofs/Again.antt
+-- at such limits a record that is read and accepted fits the buffer and is written back byte for byte: `read-writes` in proofs/Again.antt
 abbrev pub ReadWrites : Type 0
-ReadWrites = (s : List ℕ) (l : Lists) → AreBytes s → readRecord s ≡ some l → Accepted largest l → bytesOf (recordOf l) ≡ s
+ReadWrites =
+    (r : Rules) (s : List ℕ) (l : Lists) → allowed r ≡ true → AreBytes s → readRecord s ≡ some l → Accepted r l
+    → (length s ≤ recordMost) × (bytesOf (recordOf l) ≡ s)

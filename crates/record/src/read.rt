@@ -1,6 +1,6 @@
 // Reads sections and records; nothing is copied.
 ghost use mathlib.Core.Path.{_≡_};
-ghost use Rattle.record.specs.Fronts.{headAt, zoneAt, windowAt, zonesAt, windowsAt, zoneEntry, windowEntry, isWhole, readBefore, zonesWhole, windowsWhole, recordBefore, recordAt};
+ghost use Rattle.record.specs.Fronts.{headAt, zoneAt, windowAt, zonesAt, windowsAt, sectionZone, sectionWindow, isWhole, readBefore, zonesWhole, windowsWhole, recordBefore, recordAt};
 use crate::DSTOffsetRead;
 use crate::NamePlace;
 use crate::RecordRead;
@@ -121,7 +121,7 @@ pub fn dst_offsets_at(s: &[u8], at: usize) -> SectionRead
 
 // Entry i of the section of zones at the front.
 pub fn time_zone(s: &[u8], i: usize) -> TimeZoneRead
-    ensures { λ r. ⌜ r ≡ zoneEntry (now (s .entry)) i ⌝ }
+    ensures { λ r. ⌜ r ≡ sectionZone (now (s .entry)) i ⌝ }
 {
     if s.len() == 0 {
         return TimeZoneRead::Unreadable;
@@ -145,7 +145,7 @@ pub fn time_zone(s: &[u8], i: usize) -> TimeZoneRead
 
 // Entry i of the section of windows at the front.
 pub fn dst_offset(s: &[u8], i: usize) -> DSTOffsetRead
-    ensures { λ r. ⌜ r ≡ windowEntry (now (s .entry)) i ⌝ }
+    ensures { λ r. ⌜ r ≡ sectionWindow (now (s .entry)) i ⌝ }
 {
     if s.len() == 0 {
         return DSTOffsetRead::Unreadable;

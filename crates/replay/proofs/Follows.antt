@@ -9,7 +9,7 @@ use borrow.Author.Tests.{ltb-true, ltb-false, le-ltb}
 use lib.Dec.{ltb}
 use lib.ListN.{length, take, drop, take-append-drop}
 use Rattle.model.specs.Basics.{All, run}
-use Rattle.model.specs.Bytes.{recordBytes, readWindows}
+use Rattle.model.specs.Bytes.{recordBytes, recordMost, readWindows}
 use Rattle.model.specs.History.{Call, SetTimeZone, SetDSTOffset, Load, FactoryReset, windowsVerdict, verdict, ifAccepted, after}
 use Rattle.model.specs.Lists.{Window, Lists}
 use Rattle.model.specs.Output.{storedBy, lacksRoom, noSpace, storeAfterSized}
@@ -25,7 +25,7 @@ use Rattle.table.specs.Left.{timeZoneLeft, dstOffsetLeft}
 use Rattle.table.proofs.Bounds.{record-most}
 use Rattle.table.proofs.Follows.{time-zone-follows, dst-offset-follows, load-follows, reset-follows, new-follows, lengths-stay}
 use Rattle.replay.specs.Replays.{newStore}
-use Rattle.replay.specs.Tables.{recordMost, tableNext, tableThrough}
+use Rattle.replay.specs.Tables.{tableNext, tableThrough}
 
 -- ## Room for the largest record is always enough
 

@@ -44,7 +44,7 @@ answersOf t start at =
 abbrev pub newStore : Rules → Store
 newStore r = record { rules = r; lists = empty; generation = 0 }
 
--- bytes that are no history are unreadable
+-- bytes that are not a history are unreadable
 abbrev pub run : Rules → Option (List Call) → ℕ → ℕ → Answer Replayed
 run r none start at = refused Unreadable
 run r (some calls) start at = answers (answersOf (storeFrom (newStore r) calls) start at)

@@ -5,6 +5,7 @@ use mathlib.Core.Path.{_≡_}
 use Prim.Native.Nat.{ℕ}
 use Rattle.model.specs.Answers.{Answer, answers}
 use Rattle.model.specs.Basics.{run}
+use Rattle.model.specs.Bytes.{recordMost}
 use Rattle.model.specs.History.{Call, SetTimeZone, SetDSTOffset, Load, FactoryReset}
 use Rattle.model.specs.Output.{roomy}
 use Rattle.history.specs.Calls.{readCalls}
@@ -13,10 +14,6 @@ use Rattle.table.specs.Left.{timeZoneLeft, dstOffsetLeft, loadLeft, resetLeft}
 use Rattle.replay.specs.Replays.{Replayed, answersOf, nameTold, momentsTold}
 
 -- ## The calls
-
--- how many bytes the largest record has
-abbrev pub recordMost : ℕ
-recordMost = 962
 
 -- the table that a call leaves, with room for every record
 unfoldable pub tableNext : List ℕ → Call → List ℕ

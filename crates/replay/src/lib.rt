@@ -14,7 +14,7 @@ ghost use Rattle.replay.specs.Tables.{answered};
 use rules::Verdict;
 use table::layout::SIZE;
 
-// What is answered where all is told, for bytes that are no history, and where a slice has no room.
+// What is answered where all is told, for bytes that are not a history, and where a slice has no room.
 const DONE: u64 = 0;
 
 const UNREADABLE: u64 = 1;

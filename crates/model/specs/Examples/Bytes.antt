@@ -7,7 +7,7 @@ use lib.IntN.{pos, negℤ}
 use lib.ListN.{length, replicate}
 use Rattle.model.specs.Basics.{top}
 use Rattle.model.specs.Lists.{Lists, empty}
-use Rattle.model.specs.Bytes.{bytes, number, bitsOf, signed, row, goesOn, wellFormed, takeBytes, named, readName, readUntil, readEntry, readAll, allBytes, zonesBytes, windowsBytes, recordBytes, readZones, readWindows, readRecord}
+use Rattle.model.specs.Bytes.{bytes, number, bitsOf, signed, row, goesOn, wellFormed, takeBytes, named, readName, readUntil, readEntry, readAll, allBytes, zonesBytes, windowsBytes, recordBytes, recordMost, readZones, readWindows, readRecord}
 use Rattle.model.specs.Table.{zone, window}
 use Rattle.model.specs.Examples.Cases.{Gives, _gives_}
 
@@ -31,12 +31,14 @@ good-text : Gives wellFormed
     ∷ (0xC2 ∷ 0x80 ∷ []) gives true
     ∷ (0xDF ∷ 0xBF ∷ []) gives true
     ∷ (0xE0 ∷ 0xA0 ∷ 0x80 ∷ []) gives true
+    ∷ (0xE0 ∷ 0xBF ∷ 0xBF ∷ []) gives true
     ∷ (0xE1 ∷ 0x80 ∷ 0x80 ∷ []) gives true
     ∷ (0xEC ∷ 0xBF ∷ 0xBF ∷ []) gives true
     ∷ (0xED ∷ 0x9F ∷ 0xBF ∷ []) gives true
     ∷ (0xEE ∷ 0x80 ∷ 0x80 ∷ []) gives true
     ∷ (0xEF ∷ 0xBF ∷ 0xBF ∷ []) gives true
     ∷ (0xF0 ∷ 0x90 ∷ 0x80 ∷ 0x80 ∷ []) gives true
+    ∷ (0xF0 ∷ 0xBF ∷ 0xBF ∷ 0xBF ∷ []) gives true
     ∷ (0xF1 ∷ 0x80 ∷ 0x80 ∷ 0x80 ∷ []) gives true
     ∷ (0xF3 ∷ 0xBF ∷ 0xBF ∷ 0xBF ∷ []) gives true
     ∷ (0xF4 ∷ 0x8F ∷ 0xBF ∷ 0xBF ∷ []) gives true
@@ -52,8 +54,10 @@ bad-text : Gives wellFormed
     ∷ (0xC2 ∷ 0x7F ∷ []) gives false
     ∷ (0xC2 ∷ 0xC0 ∷ []) gives false
     ∷ (0xE0 ∷ 0x9F ∷ 0xBF ∷ []) gives false
+    ∷ (0xE0 ∷ 0xC0 ∷ 0x80 ∷ []) gives false
     ∷ (0xED ∷ 0xA0 ∷ 0x80 ∷ []) gives false
     ∷ (0xF0 ∷ 0x8F ∷ 0xBF ∷ 0xBF ∷ []) gives false
+    ∷ (0xF0 ∷ 0xC0 ∷ 0x80 ∷ 0x80 ∷ []) gives false
     ∷ (0xF4 ∷ 0x90 ∷ 0x80 ∷ 0x80 ∷ []) gives false
     ∷ (0xF5 ∷ 0x80 ∷ 0x80 ∷ 0x80 ∷ []) gives false
     ∷ (0xFF ∷ []) gives false
@@ -131,6 +135,6 @@ fullest =
       windows = replicate 16 (window (pos 0) 0 (some 1));
     }
 
-record-962 : length (recordBytes fullest) ≡ 962
+fullest-record : length (recordBytes fullest) ≡ recordMost
 unfolding recordBytes zonesBytes windowsBytes allBytes bytes bitsOf
-record-962 = refl
+fullest-record = refl

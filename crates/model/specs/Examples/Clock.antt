@@ -52,10 +52,18 @@ set-again : setUtcTime clock 5000 Microseconds S.Admin 90 ≡ record { state = c
 unfolding setUtcTime isKept changes
 set-again = refl
 
--- a granularity that lowers to another one is a change
-other-granularity : setUtcTime clock 5000 Milliseconds S.Admin 90 .answer ≡ answers true
+-- one new value is enough: the moment alone, the granularity alone, the source alone
+other-moment : setUtcTime clock 5001 Microseconds S.Admin 90 ≡ record { state = setTo clock 5001 Microseconds S.Admin 90; answer = answers true; effects = utcReports }
+unfolding setUtcTime isKept changes
+other-moment = refl
+
+other-granularity : setUtcTime clock 5000 Milliseconds S.Admin 90 ≡ record { state = setTo clock 5000 Milliseconds S.Admin 90; answer = answers true; effects = utcReports }
 unfolding setUtcTime isKept changes
 other-granularity = refl
+
+other-source : setUtcTime clock 5000 Microseconds S.GNSS 90 ≡ record { state = setTo clock 5000 Microseconds S.GNSS 90; answer = answers true; effects = utcReports }
+unfolding setUtcTime isKept changes
+other-source = refl
 
 -- an equal setting on a clock that was not set is kept and reported, and still nothing changed
 set-unset : setUtcTime unset 9 Minutes S.Admin 4 ≡ record { state = setTo unset 9 Minutes S.Admin 4; answer = answers false; effects = utcReports }
@@ -85,6 +93,70 @@ under-a-day : setUtcTimePersist (fresh 0) 86399999999 Seconds S.Admin 1 .effects
 unfolding setUtcTimePersist setUtcTime isKept changes aDayApart
 under-a-day = refl
 
+-- ## Trusted sources
+
+abbrev source : ℕ → ℕ → ℕ → TrustedSource
+source fabric node endpoint = record { fabric = fabric; node = node; endpoint = endpoint }
+
+-- a fresh clock and a set one, each with a source
+abbrev trusting : Clock
+trusting = withTrusted (fresh 0) (some (source 1 5 0))
+
+abbrev trustingSet : Clock
+trustingSet = withTrusted clock (some (source 1 5 0))
+
+-- a setting on a clock that has a source: the source stays, and so does the persisted moment
+set-trusting : setUtcTime trusting 5000 Seconds S.GNSS 70 .state
+    ≡ record { utc = 5000; persisted = 0; granularity = Minutes; source = S.GNSS; anchor = some 70; trusted = some (source 1 5 0) }
+unfolding setUtcTime isKept changes
+set-trusting = refl
+
+-- the same where the moment is stored
+persist-trusting : setUtcTimePersist trusting 86400000000 Seconds S.GNSS 70 .state
+    ≡ record { utc = 86400000000; persisted = 86400000000; granularity = Minutes; source = S.GNSS; anchor = some 70; trusted = some (source 1 5 0) }
+unfolding setUtcTimePersist setUtcTime isKept changes aDayApart
+persist-trusting = refl
+
+-- a first source, another one and none on a set clock: the rest of the clock stays
+source-on-set : setTrustedTimeSource clock (some (source 1 5 0)) .state
+    ≡ record { utc = 5000; persisted = 1000; granularity = Milliseconds; source = S.Admin; anchor = some 70; trusted = some (source 1 5 0) }
+unfolding setTrustedTimeSource setUtcTime isKept changes
+source-on-set = refl
+
+source-replaced : setTrustedTimeSource trustingSet (some (source 1 6 0)) .state
+    ≡ record { utc = 5000; persisted = 1000; granularity = Milliseconds; source = S.Admin; anchor = some 70; trusted = some (source 1 6 0) }
+unfolding setTrustedTimeSource setUtcTime isKept changes
+source-replaced = refl
+
+source-cleared : setTrustedTimeSource trustingSet none .state ≡ clock
+unfolding setTrustedTimeSource setUtcTime isKept changes
+source-cleared = refl
+
+-- an equal one; one that differs in the fabric, in the node or in the endpoint alone; none
+trusted : Gives (λ s. setTrustedTimeSourcePersist trusting s .effects)
+    (some (source 1 5 0) gives []
+    ∷ some (source 2 5 0) gives (report TrustedTimeSource ∷ storeSource (source 2 5 0) ∷ [])
+    ∷ some (source 1 6 0) gives (report TrustedTimeSource ∷ storeSource (source 1 6 0) ∷ [])
+    ∷ some (source 1 5 1) gives (report TrustedTimeSource ∷ storeSource (source 1 5 1) ∷ [])
+    ∷ none gives (report TrustedTimeSource ∷ emit MissingTrustedTimeSource ∷ removeSource ∷ [])
+    ∷ [])
+unfolding setTrustedTimeSourcePersist setTrustedTimeSource
+trusted = refl
+
+trusted-left : Gives (λ s. setTrustedTimeSourcePersist trusting s .state .trusted)
+    (some (source 1 5 0) gives some (source 1 5 0)
+    ∷ some (source 2 5 0) gives some (source 2 5 0)
+    ∷ some (source 1 6 0) gives some (source 1 6 0)
+    ∷ some (source 1 5 1) gives some (source 1 5 1)
+    ∷ none gives none
+    ∷ [])
+unfolding setTrustedTimeSourcePersist setTrustedTimeSource
+trusted-left = refl
+
+never-trusted : setTrustedTimeSourcePersist (fresh 0) none .effects ≡ []
+unfolding setTrustedTimeSourcePersist setTrustedTimeSource
+never-trusted = refl
+
 -- ## Load and reset
 
 -- a stored moment below the build moment persists as it is, and the UTC number is the build moment
@@ -92,37 +164,26 @@ load-old : load 1000 clock (some 7) none .state ≡ record { utc = 1000; persist
 unfolding load
 load-old = refl
 
+-- a stored moment above the build moment is both, and the stored source is the clock's
+load-new : load 1000 clock (some 2000) (some (source 1 5 0))
+    ≡ record {
+      state = record { utc = 2000; persisted = 2000; granularity = NoTime; source = S.None; anchor = none; trusted = some (source 1 5 0) };
+      answer = done;
+      effects = [];
+    }
+unfolding load
+load-new = refl
+
 -- nothing stored: the clock is fresh, set or not
 load-nothing : load 1000 clock none none ≡ record { state = fresh 1000; answer = done; effects = [] }
 unfolding load
 load-nothing = refl
 
 -- a stored source of fabric 0 leaves the clock as it was
-load-fabric-0 : load 1000 clock none (some (record { fabric = 0; node = 1; endpoint = 1 })) ≡ record { state = clock; answer = refused BadRecord; effects = [] }
+load-fabric-0 : load 1000 clock none (some (source 0 1 1)) ≡ record { state = clock; answer = refused BadRecord; effects = [] }
 unfolding load
 load-fabric-0 = refl
 
 reset : resetPersist 1000 ≡ record { state = fresh 1000; answer = done; effects = removeMoment ∷ removeSource ∷ [] }
 unfolding resetPersist
 reset = refl
-
--- ## The trusted source
-
-abbrev source : ℕ → TrustedSource
-source fabric = record { fabric = fabric; node = 5; endpoint = 0 }
-
-abbrev trusting : Clock
-trusting = withTrusted (fresh 0) (some (source 1))
-
--- an equal one, another fabric's, none, and none where there was none
-trusted : Gives (λ s. setTrustedTimeSourcePersist trusting s .effects)
-    (some (source 1) gives []
-    ∷ some (source 2) gives (report TrustedTimeSource ∷ storeSource (source 2) ∷ [])
-    ∷ none gives (report TrustedTimeSource ∷ emit MissingTrustedTimeSource ∷ removeSource ∷ [])
-    ∷ [])
-unfolding setTrustedTimeSourcePersist setTrustedTimeSource
-trusted = refl
-
-never-trusted : setTrustedTimeSourcePersist (fresh 0) none .effects ≡ []
-unfolding setTrustedTimeSourcePersist setTrustedTimeSource
-never-trusted = refl

@@ -6,14 +6,16 @@ use lib.IntN.{pos}
 use Rattle.model.specs.declared.TimeSource.the-variants.{Admin}
 use Rattle.model.specs.declared.Refusal.the-variants.{Unreadable, ConstraintError, InvalidCommand, AttributeNotFound}
 use Rattle.model.specs.Numbers.{granularityOf, sourceOf}
+use Rattle.model.specs.Basics.{keep, last}
 use Rattle.model.specs.Lists.{empty}
 use Rattle.model.specs.Answers.{refused, answers, done, numberOf, report, emit, wakeTimer, wakeClient, storeSource, removeSource, TrustedTimeSource, MissingTrustedTimeSource}
 use Rattle.model.specs.Rules.{device}
 use Rattle.model.specs.Lookups as L
 use Rattle.model.specs.Clock as C
 use Rattle.model.specs.Clock.{fresh, utcReports}
-use Rattle.model.specs.Handler.{Device, Named, setUTCTime, setTrustedTimeSource, setTimeZone, loadLists, resetLists, zonesListed, zoneAt, windowAt, databaseRead}
+use Rattle.model.specs.Handler.{Device, Named, setUTCTime, setTrustedTimeSource, setTimeZone, loadLists, resetLists, zonesListed, zoneAt, windowsListed, windowAt, zoneLimitRead, windowLimitRead, activeZone, databaseRead}
 use Rattle.model.specs.Table.{zone}
+use Rattle.model.specs.Examples.Lookups.{named}
 use Rattle.model.specs.Examples.Cases.{Gives, _gives_}
 
 -- a device with no list store, and one with empty lists
@@ -51,9 +53,31 @@ windows : Gives (windowAt listing) (0 gives refused ConstraintError ∷ [])
 unfolding windowAt L.windowAt
 windows = refl
 
-lengths : Gives (λ d. numberOf (zonesListed d)) (bare gives 6 ∷ listing gives 0 ∷ [])
+-- the sizes at limits that differ: each is its own list's limit
+abbrev uneven : Device
+uneven = record { clock = fresh 1000; store = some (record { rules = record { zoneLimit = 3; windowLimit = 7 }; lists = named; generation = 0 }) }
+
+zone-limits : Gives zoneLimitRead (bare gives refused AttributeNotFound ∷ listing gives answers 2 ∷ uneven gives answers 3 ∷ [])
+unfolding zoneLimitRead
+zone-limits = refl
+
+window-limits : Gives windowLimitRead (bare gives refused AttributeNotFound ∷ listing gives answers 2 ∷ uneven gives answers 7 ∷ [])
+unfolding windowLimitRead
+window-limits = refl
+
+-- how many are listed: an empty list of zones shows one zone, and an empty list of windows none
+zone-counts : Gives zonesListed (bare gives refused AttributeNotFound ∷ listing gives answers 1 ∷ uneven gives answers 3 ∷ [])
 unfolding zonesListed
-lengths = refl
+zone-counts = refl
+
+window-counts : Gives windowsListed (bare gives refused AttributeNotFound ∷ listing gives answers 0 ∷ uneven gives answers 1 ∷ [])
+unfolding windowsListed
+window-counts = refl
+
+-- the active zone with its name
+active-zone : Gives (activeZone uneven) (0 gives answers (record { offset = pos 60; name = none }) ∷ 20 gives answers (record { offset = pos 180; name = some (67 ∷ 69 ∷ 84 ∷ []) }) ∷ [])
+unfolding activeZone L.activeZone keep last
+active-zone = refl
 
 database : Gives databaseRead (bare gives refused AttributeNotFound ∷ listing gives answers 2 ∷ [])
 unfolding databaseRead

@@ -2,7 +2,7 @@
 use mathlib.Core.Path.{sym, ap, _∙_}
 use Rattle.image.specs.Parts.{deviceIn}
 use Rattle.model.specs.declared.Refusal.the-variants.{Unreadable, BadLimits}
-use Rattle.model.specs.Numbers.{granularityRead, granularityOf, sourceRead, sourceOf}
+use Rattle.model.specs.Numbers.{optionGranularity, granularityOf, optionTimeSource, sourceOf}
 use Rattle.model.specs.Clock as C
 use Rattle.model.specs.Output.{truth}
 use Rattle.commands.specs.Calls.{setBy, clockSet}
@@ -33,7 +33,7 @@ returns-2 c =
     let P = Tells truth s old 1 s old in
     let q = setBy C.setUtcTime d (a .utc-us) (granularityOf (a .granularity)) (sourceOf (a .source)) (a .tick) in
     on-image P s q (sym (c .before .before .before .before .is-image .ensures) ∙ not-false _ (c .before .before .before .if1 .left))
-    (no-granularity P C.setUtcTime d (a .utc-us) (a .tick) (sourceOf (a .source)) (sym (c .before .before .granularity-of .ensures) ∙ ap granularityRead (c .enum-told .given .1)) (refusal-tells s d Unreadable truth old))
+    (no-granularity P C.setUtcTime d (a .utc-us) (a .tick) (sourceOf (a .source)) (sym (c .before .before .granularity-of .ensures) ∙ ap optionGranularity (c .enum-told .given .1)) (refusal-tells s d Unreadable truth old))
 
 returns-3 : tie.Need-returns-3
 unfolding clockSet
@@ -45,8 +45,8 @@ returns-3 c =
     let P = Tells truth s old 1 s old in
     let q = setBy C.setUtcTime d (a .utc-us) (granularityOf (a .granularity)) (sourceOf (a .source)) (a .tick) in
     on-image P s q (sym (c .before .before .before .before .before .before .before .before .is-image .ensures) ∙ not-false _ (c .before .before .before .before .before .before .before .if1 .left))
-    (no-source P C.setUtcTime d (a .utc-us) (a .tick) (c .before .before .before .before .g .given .0 .0) (sym (c .before .before .before .before .before .before .granularity-of .ensures) ∙ ap granularityRead (c .before .before .before .before .g .given .1))
-    (sym (c .before .before .source-of .ensures) ∙ ap sourceRead (c .enum-told2 .given .1)) (refusal-tells s d Unreadable truth old))
+    (no-source P C.setUtcTime d (a .utc-us) (a .tick) (c .before .before .before .before .g .given .0 .0) (sym (c .before .before .before .before .before .before .granularity-of .ensures) ∙ ap optionGranularity (c .before .before .before .before .g .given .1))
+    (sym (c .before .before .source-of .ensures) ∙ ap optionTimeSource (c .enum-told2 .given .1)) (refusal-tells s d Unreadable truth old))
 
 returns-4 : tie.Need-returns-4
 unfolding clockSet
@@ -58,8 +58,8 @@ returns-4 c =
     let P = Tells truth s old _ _ _ in
     let q = setBy C.setUtcTime d (a .utc-us) (granularityOf (a .granularity)) (sourceOf (a .source)) (a .tick) in
     on-image P s q (sym (c .before .before .before .before .before .before .before .before .before .before .before .before .before .before .is-image .ensures) ∙ not-false _ (c .before .before .before .before .before .before .before .before .before .before .before .before .before .if1 .left))
-    (both-read P C.setUtcTime d (a .utc-us) (a .tick) (c .before .before .before .before .before .before .before .before .before .before .g .given .0 .0) (c .before .before .before .before .before .before .t .given .0 .0) (sym (c .before .before .before .before .before .before .before .before .before .before .before .before .granularity-of .ensures) ∙ ap granularityRead (c .before .before .before .before .before .before .before .before .before .before .g .given .1))
-    (sym (c .before .before .before .before .before .before .before .before .source-of .ensures) ∙ ap sourceRead (c .before .before .before .before .before .before .t .given .1)) (c .before .before .rtc-set .ensures))
+    (both-read P C.setUtcTime d (a .utc-us) (a .tick) (c .before .before .before .before .before .before .before .before .before .before .g .given .0 .0) (c .before .before .before .before .before .before .t .given .0 .0) (sym (c .before .before .before .before .before .before .before .before .before .before .before .before .granularity-of .ensures) ∙ ap optionGranularity (c .before .before .before .before .before .before .before .before .before .before .g .given .1))
+    (sym (c .before .before .before .before .before .before .before .before .source-of .ensures) ∙ ap optionTimeSource (c .before .before .before .before .before .before .t .given .1)) (c .before .before .rtc-set .ensures))
 
 pub rtc-set-utc-time-spec : {M : Type 1} → statement M
 rtc-set-utc-time-spec =

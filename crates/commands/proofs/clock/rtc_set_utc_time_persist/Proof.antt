@@ -2,7 +2,7 @@
 use mathlib.Core.Path.{sym, ap, _∙_}
 use Rattle.image.specs.Parts.{deviceIn}
 use Rattle.model.specs.declared.Refusal.the-variants.{Unreadable, BadLimits}
-use Rattle.model.specs.Numbers.{granularityRead, granularityOf, sourceRead, sourceOf}
+use Rattle.model.specs.Numbers.{optionGranularity, granularityOf, optionTimeSource, sourceOf}
 use Rattle.model.specs.Clock as C
 use Rattle.model.specs.Clock.{Persisted}
 use Rattle.model.specs.Output.{truth}
@@ -34,7 +34,7 @@ returns-2 c =
     let P = Tells (λ (p : Persisted). truth (p .changed)) s old 1 s old in
     let q = setBy C.setUtcTimePersist d (a .utc-us) (granularityOf (a .granularity)) (sourceOf (a .source)) (a .tick) in
     on-image P s q (sym (c .before .before .before .before .is-image .ensures) ∙ not-false _ (c .before .before .before .if1 .left))
-    (no-granularity P C.setUtcTimePersist d (a .utc-us) (a .tick) (sourceOf (a .source)) (sym (c .before .before .granularity-of .ensures) ∙ ap granularityRead (c .enum-told .given .1)) (refusal-tells s d Unreadable (λ (p : Persisted). truth (p .changed)) old))
+    (no-granularity P C.setUtcTimePersist d (a .utc-us) (a .tick) (sourceOf (a .source)) (sym (c .before .before .granularity-of .ensures) ∙ ap optionGranularity (c .enum-told .given .1)) (refusal-tells s d Unreadable (λ (p : Persisted). truth (p .changed)) old))
 
 returns-3 : tie.Need-returns-3
 unfolding clockSetPersist
@@ -46,8 +46,8 @@ returns-3 c =
     let P = Tells (λ (p : Persisted). truth (p .changed)) s old 1 s old in
     let q = setBy C.setUtcTimePersist d (a .utc-us) (granularityOf (a .granularity)) (sourceOf (a .source)) (a .tick) in
     on-image P s q (sym (c .before .before .before .before .before .before .before .before .is-image .ensures) ∙ not-false _ (c .before .before .before .before .before .before .before .if1 .left))
-    (no-source P C.setUtcTimePersist d (a .utc-us) (a .tick) (c .before .before .before .before .g .given .0 .0) (sym (c .before .before .before .before .before .before .granularity-of .ensures) ∙ ap granularityRead (c .before .before .before .before .g .given .1))
-    (sym (c .before .before .source-of .ensures) ∙ ap sourceRead (c .enum-told2 .given .1)) (refusal-tells s d Unreadable (λ (p : Persisted). truth (p .changed)) old))
+    (no-source P C.setUtcTimePersist d (a .utc-us) (a .tick) (c .before .before .before .before .g .given .0 .0) (sym (c .before .before .before .before .before .before .granularity-of .ensures) ∙ ap optionGranularity (c .before .before .before .before .g .given .1))
+    (sym (c .before .before .source-of .ensures) ∙ ap optionTimeSource (c .enum-told2 .given .1)) (refusal-tells s d Unreadable (λ (p : Persisted). truth (p .changed)) old))
 
 returns-4 : tie.Need-returns-4
 unfolding clockSetPersist
@@ -59,8 +59,8 @@ returns-4 c =
     let P = Tells (λ (p : Persisted). truth (p .changed)) s old _ _ _ in
     let q = setBy C.setUtcTimePersist d (a .utc-us) (granularityOf (a .granularity)) (sourceOf (a .source)) (a .tick) in
     on-image P s q (sym (c .before .before .before .before .before .before .before .before .before .before .before .before .before .before .is-image .ensures) ∙ not-false _ (c .before .before .before .before .before .before .before .before .before .before .before .before .before .if1 .left))
-    (both-read P C.setUtcTimePersist d (a .utc-us) (a .tick) (c .before .before .before .before .before .before .before .before .before .before .g .given .0 .0) (c .before .before .before .before .before .before .t .given .0 .0) (sym (c .before .before .before .before .before .before .before .before .before .before .before .before .granularity-of .ensures) ∙ ap granularityRead (c .before .before .before .before .before .before .before .before .before .before .g .given .1))
-    (sym (c .before .before .before .before .before .before .before .before .source-of .ensures) ∙ ap sourceRead (c .before .before .before .before .before .before .t .given .1)) (c .before .before .rtc-set-persist .ensures))
+    (both-read P C.setUtcTimePersist d (a .utc-us) (a .tick) (c .before .before .before .before .before .before .before .before .before .before .g .given .0 .0) (c .before .before .before .before .before .before .t .given .0 .0) (sym (c .before .before .before .before .before .before .before .before .before .before .before .before .granularity-of .ensures) ∙ ap optionGranularity (c .before .before .before .before .before .before .before .before .before .before .g .given .1))
+    (sym (c .before .before .before .before .before .before .before .before .source-of .ensures) ∙ ap optionTimeSource (c .before .before .before .before .before .before .t .given .1)) (c .before .before .rtc-set-persist .ensures))
 
 pub rtc-set-utc-time-persist-spec : {M : Type 1} → statement M
 rtc-set-utc-time-persist-spec =

@@ -3,7 +3,7 @@ use mathlib.Core.Path.{sym, ap, _∙_}
 use Rattle.model.specs.Handler as H
 use Rattle.image.specs.Parts.{deviceIn}
 use Rattle.model.specs.declared.Refusal.the-variants.{Unreadable, BadLimits}
-use Rattle.model.specs.Numbers.{granularityRead}
+use Rattle.model.specs.Numbers.{optionGranularity}
 use Rattle.image.specs.Asked.{given}
 use Rattle.commands.specs.Calls.{utcTimeSet}
 use Rattle.commands.proofs.Says.{Says, refusal-says, on-image, off-image, source-unread, granularity-unread, utc-read}
@@ -38,7 +38,7 @@ returns-3 c =
     let d = deviceIn s in
     let o = given (a .has-source) (a .source) in
     on-image (Says s 1 s) s (H.setUTCTime d (a .utc-us) (a .granularity) o (a .tick)) (sym (c .before .before .before .before .before .before .is-image .ensures) ∙ not-false _ (c .before .before .before .before .before .if1 .left))
-    (granularity-unread (Says s 1 s) d (a .utc-us) (a .tick) (a .granularity) o (sym (c .before .before .granularity-of .ensures) ∙ ap granularityRead (c .enum-told .given .1)) (refusal-says s d Unreadable))
+    (granularity-unread (Says s 1 s) d (a .utc-us) (a .tick) (a .granularity) o (sym (c .before .before .granularity-of .ensures) ∙ ap optionGranularity (c .enum-told .given .1)) (refusal-says s d Unreadable))
 
 returns-4 : tie.Need-returns-4
 unfolding utcTimeSet
@@ -49,7 +49,7 @@ returns-4 c =
     let o = given (a .has-source) (a .source) in
     let P = Says s _ _ in
     on-image P s (H.setUTCTime d (a .utc-us) (a .granularity) o (a .tick)) (sym (c .before .before .before .before .before .before .before .before .before .before .before .is-image .ensures) ∙ not-false _ (c .before .before .before .before .before .before .before .before .before .before .if1 .left))
-    (utc-read P d (a .utc-us) (a .tick) (a .granularity) o (c .before .before .before .before .before .g .given .0 .0) (sym (c .before .before .before .before .before .before .before .granularity-of .ensures) ∙ ap granularityRead (c .before .before .before .before .before .g .given .1))
+    (utc-read P d (a .utc-us) (a .tick) (a .granularity) o (c .before .before .before .before .before .g .given .0 .0) (sym (c .before .before .before .before .before .before .before .granularity-of .ensures) ∙ ap optionGranularity (c .before .before .before .before .before .g .given .1))
     (sym (c .before .before .before .before .before .before .before .before .before .source-readable .ensures) ∙ not-false _ (c .before .before .before .before .before .before .before .before .if2 .left)) (c .before .before .utc-time-taken .ensures))
 
 pub set-utc-time-spec : {M : Type 1} → statement M

@@ -8,7 +8,7 @@ use borrow.Author.Needs.{needs}
 use borrow.Author.Tests.{lt-ltb, le-ltb}
 use lib.ListN.{length, getD}
 use Rattle.record.specs.declared.DSTOffsetRead.the-variants as E
-use Rattle.record.specs.Fronts.{placeAfter, windowAt, nextWindow, windowFrom, windowEntry}
+use Rattle.record.specs.Fronts.{placeAfter, windowAt, nextWindow, windowFrom, sectionWindow}
 use Rattle.record.proofs.Indexed.{place-more, place-stops}
 use Rattle.record.proofs.read.dst_offset.Statement.{statement}
 use Rattle.record.proofs.read.dst_offset.Tie as tie
@@ -17,12 +17,12 @@ use Rattle.record.proofs.read.dst_offset.Tie as tie
 abbrev step : List ℕ → ℕ → Option ℕ
 step s at = nextWindow (windowAt s at)
 
-past : (s : List ℕ) (i : ℕ) → getD s 0 0 ≤ i → windowEntry s i ≡ E.Unreadable
-unfolding windowEntry
+past : (s : List ℕ) (i : ℕ) → getD s 0 0 ≤ i → sectionWindow s i ≡ E.Unreadable
+unfolding sectionWindow
 past s i h = rw (le-ltb i (getD s 0 0) h)
 
-found : (s : List ℕ) (i : ℕ) → i < getD s 0 0 → windowEntry s i ≡ windowFrom s (placeAfter (step s) i)
-unfolding windowEntry
+found : (s : List ℕ) (i : ℕ) → i < getD s 0 0 → sectionWindow s i ≡ windowFrom s (placeAfter (step s) i)
+unfolding sectionWindow
 found s i h = rw (lt-ltb i (getD s 0 0) h)
 
 no-count : (s : List ℕ) → length s ≡ 0 → getD s 0 0 ≡ 0

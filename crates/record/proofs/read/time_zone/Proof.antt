@@ -8,7 +8,7 @@ use borrow.Author.Needs.{needs}
 use borrow.Author.Tests.{lt-ltb, le-ltb}
 use lib.ListN.{length, getD}
 use Rattle.record.specs.declared.TimeZoneRead.the-variants as E
-use Rattle.record.specs.Fronts.{placeAfter, zoneAt, nextZone, zoneFrom, zoneEntry}
+use Rattle.record.specs.Fronts.{placeAfter, zoneAt, nextZone, zoneFrom, sectionZone}
 use Rattle.record.proofs.Indexed.{place-more, place-stops}
 use Rattle.record.proofs.read.time_zone.Statement.{statement}
 use Rattle.record.proofs.read.time_zone.Tie as tie
@@ -17,12 +17,12 @@ use Rattle.record.proofs.read.time_zone.Tie as tie
 abbrev step : List ℕ → ℕ → Option ℕ
 step s at = nextZone (zoneAt s at)
 
-past : (s : List ℕ) (i : ℕ) → getD s 0 0 ≤ i → zoneEntry s i ≡ E.Unreadable
-unfolding zoneEntry
+past : (s : List ℕ) (i : ℕ) → getD s 0 0 ≤ i → sectionZone s i ≡ E.Unreadable
+unfolding sectionZone
 past s i h = rw (le-ltb i (getD s 0 0) h)
 
-found : (s : List ℕ) (i : ℕ) → i < getD s 0 0 → zoneEntry s i ≡ zoneFrom s (placeAfter (step s) i)
-unfolding zoneEntry
+found : (s : List ℕ) (i : ℕ) → i < getD s 0 0 → sectionZone s i ≡ zoneFrom s (placeAfter (step s) i)
+unfolding sectionZone
 found s i h = rw (lt-ltb i (getD s 0 0) h)
 
 no-count : (s : List ℕ) → length s ≡ 0 → getD s 0 0 ≡ 0

@@ -5,7 +5,8 @@ use Prim.Native.Nat.{ℕ, zero, suc}
 use borrow.Author.Needs.{needs}
 use Rattle.history.specs.Calls.{callWith}
 use Rattle.table.specs.Left.{timeZoneLeft, dstOffsetLeft, loadLeft, resetLeft}
-use Rattle.replay.specs.Tables.{recordMost, tableNext}
+use Rattle.model.specs.Bytes.{recordMost}
+use Rattle.replay.specs.Tables.{tableNext}
 use Rattle.replay.proofs.calls.next.Statement.{statement}
 use Rattle.replay.proofs.calls.next.Tie as tie
 
