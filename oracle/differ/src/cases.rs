@@ -255,7 +255,7 @@ pub fn all_windows() -> Vec<Vec<WindowArg>> {
     at_most_two(&entries)
 }
 
-/// All pairs, looked up at the moments 0 to 5; with `whole` refused zones too stand before every list of windows
+/// All pairs, looked up at the moments 0 to 5; with `whole` every list of windows is set after refused zones too
 pub fn every_pair(whole: bool) -> Result<u64, (Case, Diff)> {
     let (zone_lists, window_lists) = (all_zones(), all_windows());
     let windows: Vec<(Vec<u8>, bool)> = window_lists.iter().map(|w| (bytes::windows(w), accepted((2, 2), &[], w))).collect();

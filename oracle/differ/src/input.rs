@@ -2,6 +2,7 @@
 use oracle::driver::{Outcome, Part, WindowArg, ZoneArg};
 
 use crate::bytes;
+use crate::port::{place, Source};
 use crate::world::{Item, Kind, Step, World};
 
 pub const TOP: u64 = u64::MAX;
@@ -196,7 +197,7 @@ fn tick(rng: &mut Rng, world: &World) -> u64 {
     match rng.below(12) {
         0..=3 => {
             // where the clock reads a boundary, or one beside it
-            let (utc, anchor) = (world.port.word(24, 8), world.port.word(40, 8));
+            let (utc, anchor) = (world.port.word(place::UTC, 8), world.port.word(place::ANCHOR, 8));
             let bounds = world.boundaries();
             let bound = rng.pick(&bounds);
             let at = anchor.saturating_add(bound.saturating_sub(utc));
@@ -209,7 +210,7 @@ fn tick(rng: &mut Rng, world: &World) -> u64 {
         7 => now.saturating_add(rng.pick(&[1, 60 * SECOND, HOUR - 1, HOUR, HOUR + 1, 2 * HOUR])),
         8 => {
             // an hour after a mark of the client, or one beside it; sometimes before it
-            let mark = world.port.word(rng.pick(&[72, 80]), 8);
+            let mark = world.port.word(rng.pick(&[place::MISSING_AT, place::FAILURE_AT]), 8);
             let at = mark.saturating_add(HOUR);
             if rng.one_in(6) {
                 mark.saturating_sub(1)
@@ -256,71 +257,90 @@ fn outcome(rng: &mut Rng, world: &World) -> Outcome {
 
 /// About a day from the persisted moment, or the UTC number that the clock holds
 fn rng_day(rng: &mut Rng, world: &World) -> u64 {
-    let persisted = world.port.word(32, 8);
-    let n = rng.pick(&[persisted.saturating_add(DAY), persisted.saturating_sub(DAY), persisted, world.port.word(24, 8)]);
+    let (persisted, utc) = (world.port.word(place::PERSISTED, 8), world.port.word(place::UTC, 8));
+    let n = rng.pick(&[persisted.saturating_add(DAY), persisted.saturating_sub(DAY), persisted, utc]);
     rng.near(n)
 }
 
-fn stored_source(rng: &mut Rng) -> Option<(u8, u64, u16)> {
+fn stored_source(rng: &mut Rng) -> Option<Source> {
     match rng.below(3) {
         0 => None,
         _ => Some((rng.pick(&[0, 1, 2, 255]), rng.pick(&[0, 1, 7, TOP]), rng.pick(&[0, 1, u16::MAX]))),
     }
 }
 
-pub fn step(rng: &mut Rng, world: &World) -> Step {
-    let lists_only = matches!(world.kind, Kind::Lists(..));
-    // the loops go on where they are due
+fn source_step(rng: &mut Rng) -> Step {
+    let named = (!rng.one_in(3)).then(|| (rng.pick(&[0, 1, 7, TOP]), rng.pick(&[0, 1, u16::MAX])));
+    Step::Source(rng.pick(&[0, 1, 1, 2, 255]), named)
+}
+
+/// The client goes on; one in four times its exchange stays open
+fn client_step(rng: &mut Rng, world: &World) -> Step {
+    if rng.one_in(4) {
+        Step::Open
+    } else {
+        Step::Client(outcome(rng, world))
+    }
+}
+
+/// Where an exchange is open or a loop is due, sometimes what goes on from there
+fn loop_step(rng: &mut Rng, world: &World) -> Option<Step> {
     let [timer, client] = world.dues();
     match (timer, client) {
-        (_, Some(due)) if due <= world.tick && rng.one_in(2) => return Step::Client(outcome(rng, world)),
-        (Some(due), _) if due <= world.tick && rng.one_in(2) => return Step::Look,
-        (_, Some(due)) if due > world.tick && rng.one_in(6) => return Step::Tick(due),
-        (Some(due), _) if due > world.tick && rng.one_in(10) => return Step::Tick(due),
-        _ => {}
+        _ if world.exchange_open() && rng.one_in(4) => Some(source_step(rng)),
+        (_, Some(due)) if due <= world.tick && rng.one_in(2) => Some(client_step(rng, world)),
+        (Some(due), _) if due <= world.tick && rng.one_in(2) => Some(Step::Look),
+        (_, Some(due)) if due > world.tick && rng.one_in(6) => Some(Step::Tick(due)),
+        (Some(due), _) if due > world.tick && rng.one_in(10) => Some(Step::Tick(due)),
+        _ => None,
     }
+}
+
+fn utc_step(rng: &mut Rng, world: &World) -> Step {
+    let utc = if rng.one_in(4) { rng_day(rng, world) } else { moment(rng, world) };
+    let g = if rng.one_in(12) { rng.pick(&[5, 6, 255]) } else { rng.below(5) as u8 };
+    let source = rng.pick(&[None, None, None, None, Some(0), Some(2), Some(16), Some(17), Some(255)]);
+    Step::Utc(utc, g, source)
+}
+
+fn set_step(rng: &mut Rng, world: &World) -> Step {
+    let g = if rng.one_in(12) { 5 } else { rng.below(5) as u8 };
+    let s = if rng.one_in(12) { 17 } else { rng.below(17) as u8 };
+    let utc = if rng.one_in(2) { rng_day(rng, world) } else { moment(rng, world) };
+    Step::Set(rng.one_in(2), utc, g, s)
+}
+
+fn load_clock_step(rng: &mut Rng, world: &World) -> Step {
+    let build = rng.pick(&[0, 10, NOW, TOP]);
+    let stored = match rng.below(3) {
+        0 => None,
+        1 => Some(rng.near(build)),
+        _ => Some(moment(rng, world)),
+    };
+    Step::LoadClock(build, stored, stored_source(rng))
+}
+
+pub fn step(rng: &mut Rng, world: &World) -> Step {
+    if let Some(step) = loop_step(rng, world) {
+        return step;
+    }
+    let lists_only = matches!(world.kind, Kind::Lists(..));
     match rng.below(if lists_only { 20 } else { 40 }) {
         0..=9 => list_step(rng, world),
         10..=14 => Step::Tick(tick(rng, world)),
-        15..=17 => {
-            let utc = if rng.one_in(4) { rng_day(rng, world) } else { moment(rng, world) };
-            let g = if rng.one_in(12) { rng.pick(&[5, 6, 255]) } else { rng.below(5) as u8 };
-            let source = rng.pick(&[None, None, None, None, Some(0), Some(2), Some(16), Some(17), Some(255)]);
-            Step::Utc(utc, g, source)
-        }
+        15..=17 => utc_step(rng, world),
         18 => Step::Generation(rng.pick(&[0, 1, u32::MAX, u32::MAX - 1])),
-        19 => {
-            let g = if rng.one_in(12) { 5 } else { rng.below(5) as u8 };
-            let s = if rng.one_in(12) { 17 } else { rng.below(17) as u8 };
-            let utc = if rng.one_in(2) { rng_day(rng, world) } else { moment(rng, world) };
-            Step::Set(rng.one_in(2), utc, g, s)
-        }
+        19 => set_step(rng, world),
         20..=25 => Step::Look,
-        26..=33 => Step::Client(outcome(rng, world)),
-        34..=36 => {
-            let named = (!rng.one_in(3)).then(|| (rng.pick(&[0, 1, 7, TOP]), rng.pick(&[0, 1, u16::MAX])));
-            Step::Source(rng.pick(&[0, 1, 1, 2, 255]), named)
-        }
+        26..=33 => client_step(rng, world),
+        34..=36 => source_step(rng),
         37 => {
             let g = rng.below(6) as u8;
             Step::Set(true, rng_day(rng, world), g, rng.below(18) as u8)
         }
-        38 => {
-            let build = rng.pick(&[0, 10, NOW, TOP]);
-            let stored = match rng.below(3) {
-                0 => None,
-                1 => Some(rng.near(build)),
-                _ => Some(moment(rng, world)),
-            };
-            Step::LoadClock(build, stored, stored_source(rng))
-        }
-        _ => {
-            if rng.one_in(2) {
-                Step::ResetClock(rng.pick(&[0, 10, NOW, TOP]))
-            } else {
-                Step::Look
-            }
-        }
+        38 => load_clock_step(rng, world),
+        _ if rng.one_in(2) => Step::ResetClock(rng.pick(&[0, 10, NOW, TOP])),
+        _ => Step::Look,
     }
 }
 

@@ -1,10 +1,10 @@
 //! Feeds the port and the oracle the same calls, and compares everything they answer.
 //!
-//!     differ [--answers N] [--seed SEED]            every short pair of lists, then random sequences
+//!     differ [--answers N] [--seed SEED]            documented differences, every short pair of lists, then random sequences
 //!     differ SEED STEPS [SEQUENCES [FIRST]]         these sequences only
 //!     differ --list FILE [--rows N] [--most BYTES]  histories with the oracle's answers
 //!
-//! Status 1 on a difference, which is made smaller and shown; 2 on arguments that say nothing.
+//! Status 1 on a difference, which is made smaller and shown; 2 on arguments that cannot be read.
 #![forbid(unsafe_code)]
 
 mod bytes;
@@ -24,14 +24,14 @@ use std::time::Instant;
 use cases::Case;
 use world::Diff;
 
-/// About two minutes on a core that others use too, one on a core of its own
+/// Takes one to two minutes on one core
 const ANSWERS: u64 = 300_000_000;
-/// From here on refused zones too stand before every list of windows
+/// From so many answers on every list of windows is set after refused zones too
 const WHOLE: u64 = 100_000_000;
 const STEPS: u64 = 24;
 const SEED: u64 = 1;
 const ROWS: u64 = 300;
-/// As many bytes of a history as a row may have
+/// How many bytes a history of a row has at most
 const MOST: u64 = 1000;
 
 fn usage() -> ! {

@@ -12,9 +12,11 @@ pub const MOMENTS_MAX: usize = 8 * timesync::MOMENTS_MAX;
 
 /// Where the numbers of an image stand that are looked at here, as the C header gives it
 pub mod place {
+    pub const CLOCK: std::ops::Range<usize> = 8..48;
     pub const GRANULARITY: usize = 8;
     pub const SOURCE: usize = 9;
     pub const SET: usize = 10;
+    pub const TRUSTED: usize = 11;
     pub const FABRIC: usize = 12;
     pub const ENDPOINT: usize = 14;
     pub const UTC: usize = 16;
@@ -26,7 +28,44 @@ pub mod place {
     pub const MISSING: usize = 80;
     pub const FAILURE: usize = 81;
     pub const GENERATION: usize = 100;
+    /// The trusted time source: where its numbers stand, and how many bytes each has
+    pub const SOURCE_NUMBERS: [(usize, usize); 4] = [(TRUSTED, 1), (FABRIC, 1), (ENDPOINT, 2), (NODE, 8)];
 }
+
+/// Codes of effects, as the C header gives them
+pub mod code {
+    /// And the number of an attribute
+    pub const REPORT: u8 = 0x10;
+    pub const REPORT_LAST: u8 = 0x1f;
+    /// And the number of an event
+    pub const EMIT: u8 = 0x20;
+    pub const EMIT_LAST: u8 = 0x2f;
+    pub const DST_STATUS: u8 = 0x21;
+    pub const TIME_ZONE_STATUS: u8 = 0x22;
+    pub const TIME_FAILURE: u8 = 0x23;
+    pub const MISSING_SOURCE: u8 = 0x24;
+    pub const WAKE_TIMER: u8 = 0x30;
+    pub const WAKE_CLIENT: u8 = 0x31;
+    pub const STORE_RECORD: u8 = 0x40;
+    pub const REMOVE_RECORD: u8 = 0x41;
+    pub const STORE_MOMENT: u8 = 0x42;
+    pub const REMOVE_MOMENT: u8 = 0x43;
+    pub const STORE_SOURCE: u8 = 0x44;
+    pub const REMOVE_SOURCE: u8 = 0x45;
+}
+
+/// Kinds of sleeps and waits, as the C header gives them
+pub mod kind {
+    pub const SLEEP_NEVER: u64 = 0;
+    pub const SLEEP_UNTIL_WOKEN: u64 = 1;
+    pub const SLEEP_AT_MOST: u64 = 2;
+    pub const WAIT_ATTEMPT_NOW: u64 = 0;
+    pub const WAIT_FOR: u64 = 1;
+    pub const WAIT_FOR_SOURCE: u64 = 2;
+}
+
+/// A trusted time source: fabric, node, endpoint
+pub type Source = (u8, u64, u16);
 
 /// The number of a refusal, or a value
 pub type Answer<T> = Result<T, u64>;
@@ -89,6 +128,12 @@ impl Port {
     pub fn poke(&mut self, at: usize, bytes: &[u8]) {
         self.bytes[GUARD + at..GUARD + at + bytes.len()].copy_from_slice(bytes);
     }
+    /// The trusted time source is from now on that of another image
+    pub fn copy_source(&mut self, from: &Port) {
+        for (at, n) in place::SOURCE_NUMBERS {
+            self.poke(at, &from.image()[at..at + n]);
+        }
+    }
     pub fn word(&self, at: usize, n: usize) -> u64 {
         self.image()[at..at + n].iter().rev().fold(0, |v, b| v << 8 | u64::from(*b))
     }
@@ -131,7 +176,7 @@ impl Port {
     pub fn reset_lists(&mut self) -> Returned {
         Returned::new(entry::reset_lists(self.slice_mut()))
     }
-    pub fn load_clock(&mut self, build: u64, moment: Option<u64>, source: Option<(u8, u64, u16)>) -> Returned {
+    pub fn load_clock(&mut self, build: u64, moment: Option<u64>, source: Option<Source>) -> Returned {
         let (fab, node, endpoint) = source.unwrap_or((0, NUMBER, 0xA5A5));
         Returned::new(entry::load_clock(
             self.slice_mut(),
@@ -221,7 +266,7 @@ impl Port {
     pub fn source(&self) -> Answer<u64> {
         self.number("source", entry::utc_time_source)
     }
-    pub fn trusted(&self) -> Answer<Option<(u8, u64, u16)>> {
+    pub fn trusted(&self) -> Answer<Option<Source>> {
         let [there, fab, node, endpoint] =
             self.numbers("trusted_time_source", |s, [a, b, c, d]| entry::trusted_time_source(s, a, b, c, d))?;
         self.note("trusted_time_source", there == 1 || [there, fab, node, endpoint] == [0; 4]);

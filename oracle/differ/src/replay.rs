@@ -73,7 +73,7 @@ impl Lents {
     }
 }
 
-/// The number of a refusal, or what is left; a call that writes what it must not write counts as the number 255, which is none
+/// The number of a refusal, or what is left; a call that writes what it must not write counts as the number 255, which no refusal has
 pub fn replay(limits: (usize, usize), history: &[u8], start: u64, at: u64, rooms: Rooms) -> Answer<Replayed> {
     let mut lent = Lents::new(rooms);
     let returned = lent.run(limits, history, start, at);

@@ -1,16 +1,26 @@
-//! Where the port and the Rust are meant to part: the rows of docs/DIFFERENCES.md, each with its smallest
+//! Where the port and the Rust are meant to differ: the rows of docs/DIFFERENCES.md, each with its smallest
 //! input, both sides looked at. And the refusals that only the port has.
 use std::panic::{catch_unwind, AssertUnwindSafe};
 
-use oracle::driver::{self, Device, Outcome, WindowArg, ZoneArg};
+use oracle::driver::{self, Device, Outcome, Part, Stand, WindowArg, ZoneArg};
+use oracle::tlv::Value;
 use oracle::trace::{self, Effect};
 
 use timesync::entry;
 
 use crate::bytes;
 use crate::input::HOUR;
-use crate::port::{self, place, Port, IMAGE, MOMENTS_MAX, RECORD_MAX};
+use crate::port::{self, code, kind, place, Port, IMAGE, MOMENTS_MAX, RECORD_MAX};
 use crate::replay::{replay, ROOMS};
+use crate::world::{Item, Kind, Step, World};
+
+/// The granularities of numbers 1 and 2
+const MINUTES: u8 = 1;
+const SECONDS: u8 = 2;
+/// The moment that the other node tells
+const TOLD: u64 = 5_000_000_000_000_000;
+/// The source that is asked: node and endpoint, on fabric 1
+const ASKED: (u64, u16) = (5, 0);
 
 type Done = Result<(), String>;
 
@@ -46,12 +56,18 @@ fn window(start: u64, end: u64) -> WindowArg {
     WindowArg { offset: 0, valid_starting: start, valid_until: Some(end) }
 }
 
+fn told() -> Outcome {
+    Outcome::Answer(vec![Part { utc: Some(Ok(Some(TOLD))), granularity: Some(Ok(SECONDS)) }], false)
+}
+
 /// How many answers were compared
 pub fn check() -> Result<u64, String> {
     let mut rows = Rows { answers: 0 };
     rows.lists()?;
     rows.clock()?;
     rows.client()?;
+    rows.source_cleared()?;
+    rows.source_replaced()?;
     rows.limits()?;
     rows.images()?;
     rows.histories()?;
@@ -91,6 +107,8 @@ impl Rows {
         self.is("row 4, the Rust loads a zone that no command takes", (r, store.zones()), (Ok(()), late.to_vec()))?;
         self.left("row 4", &mut port, 7, |p| p.load_lists(Some(&bytes::record(&late, &[]))))?;
         let three = [zone(0, 0), zone(0, 1), zone(0, 2)];
+        let r = store.load(Some(driver::record(&three, &[]))).map_err(driver::number);
+        self.is("three zones, the Rust on the shim's vector", (r, store.zones()), (Err(1), late.to_vec()))?;
         self.left("row 4, three zones", &mut port, 7, |p| p.load_lists(Some(&bytes::record(&three, &[]))))?;
         self.left("row 4, no bytes", &mut port, 7, |p| p.load_lists(Some(&[])))
     }
@@ -112,8 +130,8 @@ impl Rows {
         self.left("row 5", &mut port, 1, |p| p.set_utc_time(10, 2, Some(17), 0))?;
         self.is("row 6, the Rust", device.cmd_set_utc_time(10, 5).map_err(driver::number), Err(1))?;
         self.left("row 6", &mut port, 1, |p| p.set_utc_time(10, 5, None, 0))?;
-        self.left("a granularity of the clock that is none", &mut port, 1, |p| p.rtc_set(false, 10, 5, 0, 0).0)?;
-        self.left("a source of the clock that is none", &mut port, 1, |p| p.rtc_set(true, 10, 4, 17, 0).0)
+        self.left("a setting of the clock with granularity 5", &mut port, 1, |p| p.rtc_set(false, 10, 5, 0, 0).0)?;
+        self.left("a setting of the clock with source 17", &mut port, 1, |p| p.rtc_set(true, 10, 4, 17, 0).0)
     }
 
     /// Row 7
@@ -138,6 +156,57 @@ impl Rows {
         self.is("row 7, the marks are kept", (ticks, marks), ((HOUR, HOUR), (1, 1)))
     }
 
+    /// Row 9: the source is cleared while the exchange is open
+    fn source_cleared(&mut self) -> Done {
+        driver::set_build_moment(0);
+        driver::set_tick(0);
+        let mut device = Device::new(false);
+        device.cmd_set_source(1, Some(ASKED)).map_err(|_| "row 9: no source")?;
+        self.is("row 9, the Rust waits for the answer", device.client_start(HOUR), Stand::Exchange)?;
+        device.cmd_set_source(1, None).map_err(|_| "row 9: the source is not cleared")?;
+        self.is("row 9, the Rust's source is cleared", device.attr_trusted(), Value::Null)?;
+        trace::take();
+        driver::script(told());
+        let stand = device.client_step();
+        driver::clear_script();
+        let emitted = trace::take().iter().any(|effect| matches!(effect, Effect::Emit(..)));
+        self.is("row 9, the Rust emits nothing, then waits for a source", (emitted, stand), (false, Stand::Wait))?;
+        self.is("row 9, the Rust applies the time", device.rtc_utc(), (TOLD, true))?;
+        self.is("row 9, the Rust's granularity", device.rtc_granularity(), MINUTES)?;
+
+        let mut port = Port::new(None, 0, HOUR);
+        port.set_source(1, Some(ASKED));
+        self.is("row 9, the source is set", port.trusted(), Ok(Some((1, ASKED.0, ASKED.1))))?;
+        port.set_source(1, None);
+        self.is("row 9, the source is cleared", port.trusted(), Ok(None))?;
+        let before = port.image()[place::CLOCK].to_vec();
+        let (r, wait) = port.attempt(true, Some(TOLD), Some(SECONDS), 0);
+        let events = vec![code::MISSING_SOURCE, code::TIME_FAILURE];
+        self.is("row 9, both events, then waits for a source", (r.answer, r.effects, wait), (0, events, (kind::WAIT_FOR_SOURCE, 0)))?;
+        self.is("row 9, the clock as it was", port.image()[place::CLOCK] == before[..], true)?;
+        let (r, wait) = port.source_changed();
+        self.is("row 9, told of the change", (r.answer, r.effects, wait), (0, Vec::new(), (kind::WAIT_FOR_SOURCE, 0)))
+    }
+
+    /// No row: where the source is replaced while the exchange is open, both apply what the one before told, and ask the new one at once
+    fn source_replaced(&mut self) -> Done {
+        let mut world = World::new(Kind::Bare, 0, HOUR, 0);
+        for step in [Step::Source(1, Some(ASKED)), Step::Open, Step::Source(2, Some((6, 1)))] {
+            self.alike(&mut world, step)?;
+        }
+        self.is("a replaced source, not applied before the answer", world.port.utc_time(0), Ok((0, false)))?;
+        self.alike(&mut world, Step::Client(told()))?;
+        self.is("a replaced source, applied", world.port.utc_time(0), Ok((TOLD, true)))
+    }
+
+    /// A step that both sides answer alike
+    fn alike(&mut self, world: &mut World, step: Step) -> Done {
+        let before = world.answers;
+        let done = world.step(&Item { step, probes: Vec::new(), short: false });
+        self.answers += world.answers - before;
+        done.map_err(|diff| diff.0)
+    }
+
     /// Row 8: limits that make no store
     fn limits(&mut self) -> Done {
         for z in 0..=9 {
@@ -158,7 +227,7 @@ impl Rows {
         self.is("limits far too large", (r, bytes == [0x77; IMAGE]), (8, true))
     }
 
-    /// Row 8: bytes that are no image are refused by every call; and an index far past the end
+    /// Row 8: a buffer that is not an image is refused by every call; and an index far past the end
     fn images(&mut self) -> Done {
         let good = Port::new(Some((2, 2)), 0, 0);
         for index in [1 << 8, 1 << 16, 1 << 32, usize::MAX] {
@@ -170,22 +239,22 @@ impl Rows {
                 let mut p = good.clone();
                 if p.word(at, 1) != u64::from(byte) {
                     p.poke(at, &[byte]);
-                    self.no_image(&format!("byte {at} is {byte}"), &mut p)?;
+                    self.not_an_image(&format!("byte {at} is {byte}"), &mut p)?;
                 }
             }
         }
         let mut zeroed = good.clone();
         zeroed.poke(0, &[0; IMAGE]);
-        self.no_image("zeroed", &mut zeroed)?;
+        self.not_an_image("zeroed", &mut zeroed)?;
         for bytes in [0, 4, IMAGE - 1] {
             let mut short = good.clone();
             short.lend(bytes);
-            self.no_image(&format!("{bytes} bytes"), &mut short)?;
+            self.not_an_image(&format!("{bytes} bytes"), &mut short)?;
         }
         Ok(())
     }
 
-    fn no_image(&mut self, what: &str, p: &mut Port) -> Done {
+    fn not_an_image(&mut self, what: &str, p: &mut Port) -> Done {
         self.left(what, p, 8, |p| p.set_utc_time(1, 2, None, 0))?;
         self.left(what, p, 8, |p| p.set_source(1, None))?;
         self.left(what, p, 4, |p| p.set_source(0, None))?;
@@ -201,10 +270,10 @@ impl Rows {
         self.left(what, p, 8, |p| p.look(0, 64).0)?;
         self.left(what, p, 8, |p| p.attempt(false, None, None, 0).0)?;
         self.left(what, p, 8, |p| p.source_changed().0)?;
-        self.no_image_read(what, p)
+        self.not_an_image_read(what, p)
     }
 
-    fn no_image_read(&mut self, what: &str, p: &Port) -> Done {
+    fn not_an_image_read(&mut self, what: &str, p: &Port) -> Done {
         let refusals = [
             p.utc_time(0).err(),
             p.granularity().err(),
@@ -232,7 +301,7 @@ impl Rows {
         self.is(what, p.spoiled.get(), None)
     }
 
-    /// Row 8: bytes that are no history
+    /// Row 8: bytes that are not a history
     fn histories(&mut self) -> Done {
         for (history, refusal) in [
             (&[][..], None),

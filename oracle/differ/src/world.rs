@@ -7,10 +7,10 @@ use oracle::tlv::Value;
 use oracle::trace::{self, Effect};
 
 use crate::bytes;
-use crate::port::{place, LookTold, Port, Returned, RECORD_MAX};
+use crate::port::{code, place, LookTold, Port, Returned, Source, RECORD_MAX};
 use crate::tally;
 
-/// What stands beside the image
+/// What the image is compared with
 #[derive(Debug, Clone, Copy, PartialEq, Eq)]
 pub enum Kind {
     /// A list store at any limits, behind the handler as a provider: clock, lists and LocalTime, no timer
@@ -48,12 +48,14 @@ pub enum Step {
     /// The clock's own setting: whether it persists, moment, granularity, source
     Set(bool, u64, u8, u8),
     /// A load of the clock: build moment, stored moment, stored source
-    LoadClock(u64, Option<u64>, Option<(u8, u64, u16)>),
+    LoadClock(u64, Option<u64>, Option<Source>),
     ResetClock(u64),
     /// The generation is put to a number
     Generation(u32),
     /// The timer's loop runs until it waits
     Look,
+    /// The client's loop runs until it waits, and an exchange that it opens stays open
+    Open,
     /// The client's loop runs until it waits, and its exchanges end so
     Client(Outcome),
 }
@@ -72,6 +74,9 @@ pub struct Diff(pub String);
 
 type Done = Result<(), Diff>;
 
+/// Time Synchronization
+const CLUSTER: u32 = 0x38;
+
 fn number<T>(r: &Result<T, Error>) -> u64 {
     match r {
         Ok(_) => 0,
@@ -89,6 +94,8 @@ pub struct World {
     timer_woken: bool,
     client: Option<Option<u64>>,
     client_woken: bool,
+    /// The source that the open exchange was opened with
+    exchange: Option<Source>,
     period: u64,
     /// The list calls so far as one history; none once the generation was put
     history: Option<Vec<u8>>,
@@ -110,7 +117,7 @@ mod compare;
 mod history;
 mod loops;
 
-fn source_value(source: Option<(u8, u64, u16)>) -> Value {
+fn source_value(source: Option<Source>) -> Value {
     match source {
         None => Value::Null,
         Some((fab, node, endpoint)) => {
@@ -138,6 +145,7 @@ impl World {
             timer_woken: false,
             client: None,
             client_woken: false,
+            exchange: None,
             period,
             history: Some(Vec::new()),
             answers: 0,
@@ -149,41 +157,41 @@ impl World {
     }
 
     /// What an effect that the port asks for is to the oracle, with what it carries
-    fn effect(port: &Port, code: u8, record: Option<&[u8]>, told: Option<&LookTold>) -> Result<Effect, Diff> {
+    fn effect(port: &Port, asked: u8, record: Option<&[u8]>, told: Option<&LookTold>) -> Result<Effect, Diff> {
         let none = || Value::Struct(Vec::new());
-        Ok(match code {
-            0x10..=0x1f => Effect::Report(0, 0x38, u32::from(code - 0x10)),
-            0x21 => {
-                let told = told.ok_or(Diff("DSTStatus from a call that is no look".into()))?;
-                Effect::Emit(0, 0x38, 1, Value::Struct(vec![(0, Value::Bool(told.dst_active))]))
+        Ok(match asked {
+            code::REPORT..=code::REPORT_LAST => Effect::Report(0, CLUSTER, u32::from(asked - code::REPORT)),
+            code::DST_STATUS => {
+                let told = told.ok_or(Diff("DSTStatus from a call that is not a look".into()))?;
+                Effect::Emit(0, CLUSTER, u32::from(asked - code::EMIT), Value::Struct(vec![(0, Value::Bool(told.dst_active))]))
             }
-            0x22 => {
-                let told = told.ok_or(Diff("TimeZoneStatus from a call that is no look".into()))?;
+            code::TIME_ZONE_STATUS => {
+                let told = told.ok_or(Diff("TimeZoneStatus from a call that is not a look".into()))?;
                 let mut fields = vec![(0, Value::Int(told.offset.into()))];
                 if let Some(name) = &told.name {
-                    let name = String::from_utf8(name.clone()).map_err(|_| Diff("a name that is no UTF-8".into()))?;
+                    let name = String::from_utf8(name.clone()).map_err(|_| Diff("a name that is not UTF-8".into()))?;
                     fields.push((1, Value::Str(name)));
                 }
-                Effect::Emit(0, 0x38, 2, Value::Struct(fields))
+                Effect::Emit(0, CLUSTER, u32::from(asked - code::EMIT), Value::Struct(fields))
             }
-            0x20..=0x2f => Effect::Emit(0, 0x38, u32::from(code - 0x20), none()),
-            0x30 => Effect::WakeTimer,
-            0x31 => Effect::WakeClient,
-            0x40 => {
+            code::EMIT..=code::EMIT_LAST => Effect::Emit(0, CLUSTER, u32::from(asked - code::EMIT), none()),
+            code::WAKE_TIMER => Effect::WakeTimer,
+            code::WAKE_CLIENT => Effect::WakeClient,
+            code::STORE_RECORD => {
                 let bytes = record.ok_or(Diff("a record to store, and none was copied".into()))?;
                 let (zones, windows) =
                     bytes::read_record(bytes).ok_or(Diff(format!("stored record {} cannot be read", bytes::hex(bytes))))?;
                 Effect::Store(TIME_ZONE_KEY, driver::record(&zones, &windows))
             }
-            0x41 => Effect::Remove(TIME_ZONE_KEY),
-            0x42 => Effect::Store(LKG_UTC_KEY, Value::Uint(port.word(place::PERSISTED, 8))),
-            0x43 => Effect::Remove(LKG_UTC_KEY),
-            0x44 => {
+            code::REMOVE_RECORD => Effect::Remove(TIME_ZONE_KEY),
+            code::STORE_MOMENT => Effect::Store(LKG_UTC_KEY, Value::Uint(port.word(place::PERSISTED, 8))),
+            code::REMOVE_MOMENT => Effect::Remove(LKG_UTC_KEY),
+            code::STORE_SOURCE => {
                 let source = (port.word(place::FABRIC, 1) as u8, port.word(place::NODE, 8), port.word(place::ENDPOINT, 2) as u16);
                 Effect::Store(TRUSTED_TIME_SOURCE_KEY, source_value(Some(source)))
             }
-            0x45 => Effect::Remove(TRUSTED_TIME_SOURCE_KEY),
-            _ => return Err(Diff(format!("effect code {code:#x} is none"))),
+            code::REMOVE_SOURCE => Effect::Remove(TRUSTED_TIME_SOURCE_KEY),
+            _ => return Err(Diff(format!("{asked:#x} is not the code of an effect"))),
         })
     }
 
@@ -197,8 +205,8 @@ impl World {
         same!(self, format_args!("{what}, answer"), r.answer, answer);
         let asked = Self::effects(&self.port, r, record, None)?;
         same!(self, format_args!("{what}, effects"), asked, effects);
-        self.timer_woken |= r.effects.contains(&0x30);
-        self.client_woken |= r.effects.contains(&0x31);
+        self.timer_woken |= r.effects.contains(&code::WAKE_TIMER);
+        self.client_woken |= r.effects.contains(&code::WAKE_CLIENT);
         Ok(())
     }
 
@@ -248,7 +256,8 @@ impl World {
                 }
             }
             Step::Look => self.look(item.short)?,
-            Step::Client(outcome) => self.client(outcome)?,
+            Step::Open => self.client(None)?,
+            Step::Client(outcome) => self.client(Some(outcome))?,
         }
         self.compare(&item.probes, item.short)
     }
@@ -277,7 +286,7 @@ impl World {
         Ok(())
     }
 
-    fn load_clock(&mut self, build: u64, moment: Option<u64>, source: Option<(u8, u64, u16)>) -> Done {
+    fn load_clock(&mut self, build: u64, moment: Option<u64>, source: Option<Source>) -> Done {
         let before = self.port.image().to_vec();
         let p = self.port.load_clock(build, moment, source);
         if matches!(source, Some((0, ..))) {
@@ -295,7 +304,7 @@ impl World {
         let before = self.port.image().to_vec();
         let p = self.port.set_utc_time(utc, g, source, self.tick);
         if source.is_some_and(|s| s > 16) {
-            // a number that names nothing: the Rust never reads the field
+            // a number of no time source: the Rust never reads the field
             return self.turned_down("SetUTCTime", &p, 1, &before);
         }
         let r = self.device.cmd_set_utc_time(utc, g);
@@ -397,7 +406,7 @@ impl World {
             None => None,
             Some(bytes) => match bytes::read_record(bytes) {
                 Some((zones, windows)) if accepted(limits, &zones, &windows) => Some(driver::record(&zones, &windows)),
-                // unreadable, or lists that the commands would not take: the Rust loads what its vectors hold
+                // unreadable, or lists that the commands would not take: the Rust's load has no rules
                 _ => return self.turned_down("load of the lists", &p, 7, &before),
             },
         };
@@ -426,6 +435,10 @@ impl World {
             }
         }
         out
+    }
+
+    pub fn exchange_open(&self) -> bool {
+        self.exchange.is_some()
     }
 
     pub fn dues(&self) -> [Option<u64>; 2] {

@@ -301,7 +301,7 @@ impl InvokeContext for Ctx {
 
 type Run = Pin<Box<dyn Future<Output = Result<(), Error>>>>;
 
-/// Where a loop stands after a step
+/// What a loop waits for after a step
 #[derive(Debug, Clone, Copy, PartialEq, Eq)]
 pub enum Stand {
     /// Sleeping until this tick, or woken

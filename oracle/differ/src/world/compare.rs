@@ -180,7 +180,7 @@ impl World {
             let (offset, start, name) = self.port.zone(i, 64).map_err(|e| Diff(format!("TimeZone {i} is refused with {e}")))?;
             let mut fields = vec![(0, Value::Int(offset.into())), (1, Value::Uint(start))];
             if let Some(name) = name {
-                fields.push((2, Value::Str(String::from_utf8(name).map_err(|_| Diff("a name that is no UTF-8".into()))?)));
+                fields.push((2, Value::Str(String::from_utf8(name).map_err(|_| Diff("a name that is not UTF-8".into()))?)));
             }
             zones.push(Value::Struct(fields));
             same!(self, "TimeZone, one", Ok(zones[i].clone()), self.device.attr_zones(Some(i as u16)).map_err(|_| ()));

@@ -4,13 +4,23 @@ use oracle::driver::{self, Outcome, Part, Stand};
 use oracle::trace::{self, Effect};
 
 use super::{Diff, Done, Kind, World};
-use crate::port::{place, LookTold, Port};
+use crate::input::HOUR;
+use crate::port::{code, kind, place, LookTold, Port, Returned, Source};
 use crate::tally;
+
+/// What the caller makes of an outcome: whether it was answered, a moment, a granularity
+type Reading = (bool, Option<u64>, Option<u8>);
+
+/// The client's marks: whether there is one, its tick, and the event that it holds back
+const MARKS: [(usize, usize, u8); 2] =
+    [(place::MISSING, place::MISSING_AT, code::MISSING_SOURCE), (place::FAILURE, place::FAILURE_AT, code::TIME_FAILURE)];
 
 /// What a step of the client's loop did, by the port
 struct Round {
     effects: Vec<Effect>,
     due: Option<u64>,
+    /// The source that the open exchange was opened with
+    exchange: Option<Source>,
     /// An event was asked for whose mark lies after the tick: the Rust has no answer there
     backwards: bool,
 }
@@ -26,7 +36,7 @@ impl World {
             let before = self.port.image().to_vec();
             let (p, told) = self.port.look(self.tick, 64);
             same!(self, "look, answer", (p.answer, &p.effects[..]), (0, &[][..]));
-            let silent = LookTold { offset: 0, name: None, dst_active: false, sleep: (0, 0) };
+            let silent = LookTold { offset: 0, name: None, dst_active: false, sleep: (kind::SLEEP_NEVER, 0) };
             same!(self, "look with no list store", told, Some(silent));
             same!(self, "look, stand", (Vec::new(), Stand::Wait), (effects, stand));
             self.timer = Some(None);
@@ -64,12 +74,12 @@ impl World {
             self.spoils(&copy)?;
         }
         asked.extend(Self::effects(&self.port, &p, None, Some(&told))?);
-        let zone_told = p.effects.contains(&0x22);
+        let zone_told = p.effects.contains(&code::TIME_ZONE_STATUS);
         same!(self, "look, what is not told is 0", !zone_told && (told.offset, &told.name) != (0, &None), false);
-        same!(self, "look, what is not told is 0", !p.effects.contains(&0x21) && told.dst_active, false);
+        same!(self, "look, what is not told is 0", !p.effects.contains(&code::DST_STATUS) && told.dst_active, false);
         let due = match told.sleep {
-            (1, 0) => None,
-            (2, us) => {
+            (kind::SLEEP_UNTIL_WOKEN, 0) => None,
+            (kind::SLEEP_AT_MOST, us) => {
                 asked.push(Effect::Sleep(us));
                 Some(self.tick.saturating_add(us))
             }
@@ -81,9 +91,8 @@ impl World {
 
     // ---- The client
 
-    /// What the caller makes of an outcome: whether it was answered, a moment, a granularity
-    fn reading(outcome: &Outcome) -> (bool, Option<u64>, Option<u8>) {
-        let Outcome::Answer(parts, fault) = outcome else {
+    fn reading(outcome: Option<&Outcome>) -> Reading {
+        let Some(Outcome::Answer(parts, fault)) = outcome else {
             return (false, None, None);
         };
         if parts.is_empty() || *fault {
@@ -106,12 +115,17 @@ impl World {
         (true, utc, granularity)
     }
 
-    /// The client's loop until it waits, on an image
-    fn client_round(&mut self, port: &mut Port, woken: &mut bool, outcome: &Outcome) -> Result<Round, Diff> {
-        let mut round = Round { effects: Vec::new(), due: self.client.flatten(), backwards: false };
-        let (mut must, mut fresh) = (self.client.is_none(), false);
+    /// The client's loop until it waits, on an image; without an outcome an exchange stays open
+    fn client_round(&mut self, port: &mut Port, woken: &mut bool, outcome: Option<&Outcome>) -> Result<Round, Diff> {
+        let mut round = Round { effects: Vec::new(), due: self.client.flatten(), exchange: self.exchange, backwards: false };
+        let (mut must, mut fresh) = (self.client.is_none() || self.exchange.is_some(), false);
         loop {
             if must {
+                Self::open(port, &mut round)?;
+                if round.exchange.is_some() && outcome.is_none() {
+                    round.due = None;
+                    return Ok(round);
+                }
                 self.attempt(port, outcome, &mut round)?;
                 (must, fresh) = (false, true);
             }
@@ -120,9 +134,10 @@ impl World {
             } else if *woken {
                 *woken = false;
                 let (p, wait) = port.source_changed();
-                tally::met(if wait.0 == 0 { "source changed, attempt now" } else { "source changed, wait" }, &p);
+                let now = wait == (kind::WAIT_ATTEMPT_NOW, 0);
+                tally::met(if now { "source changed, attempt now" } else { "source changed, wait" }, &p);
                 same!(self, "source changed, answer", (p.answer, &p.effects[..]), (0, &[][..]));
-                if wait == (0, 0) {
+                if now {
                     must = true;
                 } else {
                     self.park(&mut round, wait)?;
@@ -134,40 +149,89 @@ impl World {
         }
     }
 
+    fn trusted(port: &Port) -> Result<Option<Source>, Diff> {
+        port.trusted().map_err(|e| Diff(format!("trusted source is refused with {e}")))
+    }
+
+    /// An exchange is opened where none is open and there is a source
+    fn open(port: &Port, round: &mut Round) -> Done {
+        if round.exchange.is_none() {
+            round.exchange = Self::trusted(port)?;
+            round.effects.extend(round.exchange.map(|(fab, node, _)| Effect::Initiate(fab, node)));
+        }
+        Ok(())
+    }
+
     /// One attempt: what is asked for, and how long to wait
-    fn attempt(&mut self, port: &mut Port, outcome: &Outcome, round: &mut Round) -> Done {
-        let (answered, utc, granularity) = Self::reading(outcome);
-        let trusted = port.trusted().map_err(|e| Diff(format!("trusted source is refused with {e}")))?;
-        if let Some((fab, node, endpoint)) = trusted {
-            round.effects.push(Effect::Initiate(fab, node));
+    fn attempt(&mut self, port: &mut Port, outcome: Option<&Outcome>, round: &mut Round) -> Done {
+        let (asked, trusted) = (round.exchange.take(), Self::trusted(port)?);
+        if let (Some((_, _, endpoint)), Some(outcome)) = (asked, outcome) {
             if *outcome != Outcome::NoSession {
                 round.effects.push(Effect::Read(vec![(endpoint, 0), (endpoint, 1)], true));
             }
         }
-        let before = port.clone();
+        let (before, reading) = (port.clone(), Self::reading(outcome));
+        let cleared = asked.filter(|_| trusted.is_none());
+        if let Some((fab, node, endpoint)) = cleared {
+            self.attempt_cleared(port.clone(), reading)?;
+            // the Rust goes on with the source that it asked: for this one call it is there again
+            port.set_source(fab, Some((node, endpoint)));
+        }
+        let (answered, utc, granularity) = reading;
         let (p, wait) = port.attempt(answered, utc, granularity, self.tick);
+        if cleared.is_some() {
+            port.copy_source(&before);
+        }
         tally::met(["attempt, waits 0", "attempt, waits for a time", "attempt, waits for a source"][wait.0.min(2) as usize], &p);
+        if trusted.is_some() && trusted != asked {
+            tally::met("attempt, source replaced while open", &p);
+        }
         same!(self, "attempt, answer", p.answer, 0);
-        let applied = p.answer == 0 && trusted.is_some() && answered && utc.is_some() && granularity != Some(0);
-        let missing = trusted.is_none() || !answered;
-        let marks = [(place::MISSING, place::MISSING_AT, 0x24, missing), (place::FAILURE, place::FAILURE_AT, 0x23, !applied)];
-        for (mark, at, code, asked) in marks {
-            if asked && before.word(mark, 1) == 1 && before.word(at, 8) > self.tick {
-                round.backwards = true;
-                tally::met("attempt before its mark", &p);
-                same!(self, "attempt before its mark, no event", p.effects.contains(&code), false);
-                same!(self, "attempt before its mark, mark kept", (port.word(mark, 1), port.word(at, 8)), (1, before.word(at, 8)));
+        let applied = asked.is_some() && answered && utc.is_some() && granularity != Some(0);
+        for (mark, wanted) in MARKS.into_iter().zip([asked.is_none() || !answered, !applied]) {
+            if wanted {
+                round.backwards |= self.before_mark(port, &before, mark, &p)?;
             }
         }
         round.effects.extend(Self::effects(port, &p, None, None)?);
         self.park(round, wait)
     }
 
+    /// Whether the mark of a wanted event lies after the tick; then there is no event, and the mark is kept
+    fn before_mark(&mut self, port: &Port, before: &Port, (mark, at, code): (usize, usize, u8), p: &Returned) -> Result<bool, Diff> {
+        if before.word(mark, 1) == 0 || before.word(at, 8) <= self.tick {
+            return Ok(false);
+        }
+        tally::met("attempt before its mark", p);
+        same!(self, "attempt before its mark, no event", p.effects.contains(&code), false);
+        same!(self, "attempt before its mark, mark kept", (port.word(mark, 1), port.word(at, 8)), (1, before.word(at, 8)));
+        Ok(true)
+    }
+
+    /// On a copy, the answer of an exchange whose source was cleared: the events that are due are marked, nothing else changes, and
+    /// the client waits for a source
+    fn attempt_cleared(&mut self, mut copy: Port, (answered, utc, granularity): Reading) -> Done {
+        let (mut wanted, mut events) = (copy.clone(), Vec::new());
+        for (mark, at, code) in MARKS {
+            let elapsed = self.tick.checked_sub(copy.word(at, 8));
+            if copy.word(mark, 1) == 0 || elapsed.is_some_and(|us| us >= HOUR) {
+                wanted.poke(mark, &[1]);
+                wanted.poke(at, &self.tick.to_le_bytes());
+                events.push(code);
+            }
+        }
+        let (p, wait) = copy.attempt(answered, utc, granularity, self.tick);
+        tally::met("attempt, source cleared while open", &p);
+        same!(self, "attempt, source cleared", (p.answer, p.effects, wait), (0, events, (kind::WAIT_FOR_SOURCE, 0)));
+        same!(self, "attempt, source cleared, image as wanted", copy.image() == wanted.image(), true);
+        self.spoils(&copy)
+    }
+
     fn park(&self, round: &mut Round, wait: (u64, u64)) -> Done {
         round.effects.push(Effect::ParkClient);
         round.due = match wait {
-            (2, 0) => None,
-            (1, us) => {
+            (kind::WAIT_FOR_SOURCE, 0) => None,
+            (kind::WAIT_FOR, us) => {
                 round.effects.push(Effect::Sleep(us));
                 Some(self.tick.saturating_add(us))
             }
@@ -176,7 +240,7 @@ impl World {
         Ok(())
     }
 
-    pub(super) fn client(&mut self, outcome: &Outcome) -> Done {
+    pub(super) fn client(&mut self, outcome: Option<&Outcome>) -> Done {
         if matches!(self.kind, Kind::Lists(..)) {
             return Ok(());
         }
@@ -189,8 +253,9 @@ impl World {
         }
         driver::clear_script();
         // an attempt, and one more where the source changed meanwhile
-        driver::script(outcome.clone());
-        driver::script(outcome.clone());
+        for outcome in [outcome, outcome].into_iter().flatten() {
+            driver::script(outcome.clone());
+        }
         let stand = match self.client {
             None => self.device.client_start(self.period),
             Some(_) => self.device.client_step(),
@@ -200,8 +265,10 @@ impl World {
         self.port = port;
         self.client_woken = woken;
         self.client = Some(round.due);
+        self.exchange = round.exchange;
         same!(self, "client, effects and waits", round.effects, effects);
-        same!(self, "client, stand", round.due.map_or(Stand::Wait, Stand::Until), stand);
+        let waits = if round.exchange.is_some() { Stand::Exchange } else { round.due.map_or(Stand::Wait, Stand::Until) };
+        same!(self, "client, stand", waits, stand);
         Ok(())
     }
 

@@ -1,12 +1,12 @@
 #!/usr/bin/env python3
-"""Changes a line of the Rust at a time, and looks whether `differ` notices.
+"""Changes a line of the Rust at a time, and looks whether `differ` detects the fault.
 
-Copies this folder and the crate `timesync` to target/bite, puts the given files there, and for each change below writes the
+Copies this folder and the crate `timesync` to target/faults, puts the given files there, and for each change below writes the
 changed file into the copy, builds it and runs `differ` at a small size. A change is noticed where differ
 ends with status 1 (a difference, or a panic of the changed Rust). Changes that no sequence of calls can
 show are marked as such, with the reason. Status 1 where another one is not noticed.
 
-Usage: bite.py [--only TEXT] [--sequences N]; TIMESYNC_LIB_DIR and GIVEN as in run.sh."""
+Usage: faults.py [--only TEXT] [--sequences N]; TIMESYNC_LIB_DIR and GIVEN as in run.sh."""
 import os
 import pathlib
 import shutil
@@ -16,7 +16,11 @@ import time
 
 HERE = pathlib.Path(__file__).resolve().parent
 GIVEN = pathlib.Path(os.environ.get("GIVEN", HERE.parent / "docs/src")).resolve()
-COPY = HERE / "target/bite/copy"
+COPY = HERE / "target/faults/copy"
+BUILD = HERE / "target/faults/build"
+PROFILE = "faults"
+STEPS, SEED, SEQUENCES = "24", "1", "3000"
+LONGEST_RUN_S = 600
 FILES = {
     "time_sync": ("rs-matter-dm/src/clusters/time_sync.rs", "dm/clusters/time_sync.rs"),
     "client": ("rs-matter-dm/src/clusters/time_sync/client.rs", "dm/clusters/time_sync/client.rs"),
@@ -149,6 +153,11 @@ CHANGES = [
     (C, "TimeSource::NodeTimeCluster,", "TimeSource::Admin,", 1),
     (C, "persist.run()?;", "", 1),
     (C, "utc_time = Some(value?.into_option());", "utc_time = utc_time.or(Some(value?.into_option()));", 1),
+    # the source is asked for again after the exchange: whether there is one, and whether it is the same
+    (C, "if let Some(utc_us) = utc_time.flatten() {",
+     "if let Some(utc_us) = utc_time.flatten().filter(|_| self.matter.with_state(|s| s.rtc.trusted_time_source()).is_some()) {", 1),
+    (C, "if let Some(utc_us) = utc_time.flatten() {",
+     "if let Some(utc_us) = utc_time.flatten().filter(|_| self.matter.with_state(|s| s.rtc.trusted_time_source()).is_none_or(|s| s == tts)) {", 1),
 ]
 
 
@@ -171,34 +180,51 @@ def shown(text):
     return " / ".join(line.strip() for line in text.splitlines()) or "(dropped)"
 
 
-def main():
-    words = sys.argv[1:]
-    only = words[words.index("--only") + 1] if "--only" in words else ""
-    sequences = words[words.index("--sequences") + 1] if "--sequences" in words else "3000"
+def copy_crates():
+    """The crates into the folder of the copy; the crate `timesync` beside them, where `differ` looks for it."""
     COPY.parent.mkdir(parents=True, exist_ok=True)
     shutil.copytree(HERE, COPY, ignore=shutil.ignore_patterns("target"), dirs_exist_ok=True)
-    # beside it, where `differ` looks for the crate
     shutil.copytree(HERE.parent / "rust", COPY.parent / "rust", ignore=shutil.ignore_patterns("target", "bench"), dirs_exist_ok=True)
-    texts = {name: (GIVEN / path).read_text() for name, (path, _) in FILES.items()}
-    environment = dict(os.environ, CARGO_TARGET_DIR=str(HERE / "target/bite/build"))
+
+
+def ask(sequences):
+    """The status of differ, none where it does not build, and the output."""
+    environment = dict(os.environ, CARGO_TARGET_DIR=str(BUILD))
     environment.setdefault("TIMESYNC_LIB_DIR", str(HERE.parent / "target/staticlib"))
+    build = subprocess.run(["cargo", "build", "--offline", "--profile", PROFILE, "-p", "differ"], cwd=COPY, env=environment,
+                           capture_output=True, text=True)
+    if build.returncode:
+        return None, build.stderr
+    try:
+        run = subprocess.run([BUILD / PROFILE / "differ", SEED, STEPS, sequences], capture_output=True, text=True,
+                             timeout=LONGEST_RUN_S)
+    except subprocess.TimeoutExpired:
+        return 1, "difference: it does not end"
+    return run.returncode, run.stdout
 
-    def ask():
-        """Whether it builds, and then the status and the output of differ."""
-        build = subprocess.run(["cargo", "build", "--offline", "--profile", "bite", "-p", "differ"], cwd=COPY, env=environment,
-                               capture_output=True, text=True)
-        if build.returncode:
-            return None, build.stderr
-        try:
-            run = subprocess.run([HERE / "target/bite/build/bite/differ", "1", "24", sequences], capture_output=True, text=True,
-                                 timeout=600)
-        except subprocess.TimeoutExpired:
-            return 1, "difference: it does not end"
-        return run.returncode, run.stdout
 
+def judged(status, output, reason):
+    """The verdict on a change, and why."""
+    if status is None:
+        return "NOT BUILT", "; ".join(line for line in output.splitlines() if line.startswith("error"))[:200]
+    if status:
+        smaller = (line for line in output.splitlines() if line.startswith("made smaller"))
+        return "noticed", next(smaller, output[:120]).removeprefix("made smaller: ")
+    return ("equivalent", reason[0]) if reason else ("NOT NOTICED", "")
+
+
+def option(name, default):
+    words = sys.argv[1:]
+    return words[words.index(name) + 1] if name in words else default
+
+
+def main():
+    only, sequences = option("--only", ""), option("--sequences", SEQUENCES)
+    copy_crates()
+    texts = {name: (GIVEN / path).read_text() for name, (path, _) in FILES.items()}
     for name in FILES:
         put(name, texts[name])
-    status, output = ask()
+    status, output = ask(sequences)
     print(f"unchanged: {'no difference' if status == 0 else 'NOT USABLE'}", flush=True)
     if status != 0:
         sys.exit(output)
@@ -209,17 +235,8 @@ def main():
         if only not in f"{name}.rs:{line} {old}":
             continue
         put(name, text)
-        status, output = ask()
+        verdict, why = judged(*ask(sequences), reason)
         put(name, texts[name])
-        if status is None:
-            verdict, why = "NOT BUILT", "; ".join(l for l in output.splitlines() if l.startswith("error"))[:200]
-        elif status:
-            verdict = "noticed"
-            why = next((l for l in output.splitlines() if l.startswith("made smaller")), output[:120]).removeprefix("made smaller: ")
-        elif reason:
-            verdict, why = "equivalent", reason[0]
-        else:
-            verdict, why = "NOT NOTICED", ""
         count[verdict] += 1
         print(f"{verdict:11} | {name}.rs:{line} | {shown(old)} -> {shown(new)} | {why[:160]}", flush=True)
     print(", ".join(f"{n} {verdict}" for verdict, n in count.items()), f"in {time.time() - begun:.0f} s")
