@@ -1,14 +1,32 @@
 /*
  * timesync.h: the clock, the time-zone list store with its handler and timer, and the client of a Matter node, over one image.
  *
- * Link with libcontroller.a. Nothing is allocated and nothing is kept between two calls: all state is the image, a slice of
- * TIMESYNC_IMAGE_SIZE bytes that the caller lends to every call.
+ * Nothing is allocated and nothing is kept between two calls: all state is the image, a buffer of TIMESYNC_IMAGE_SIZE bytes that the caller
+ * passes to every call.
+ *
+ * Linking
+ *   - Link with libcontroller.a. It is built for x86-64 Linux and the System V calling convention.
+ *   - It needs two functions from elsewhere: memcpy and memset.
+ *
+ * Boot. Make the image, load what flash holds, then make the first look and the first attempt, in this order. rust/tests/c/boot.c is a
+ * whole program. Where flash holds no moment, no source or no record, has_moment, has_source or there is 0; where there is no trusted time
+ * source to ask, answered is 0.
+ *
+ *     timesync_new(image, image_len, 1, 2, 2, build, period);
+ *     clock = timesync_load_clock(image, image_len, build, has_moment, moment, has_source, fab_idx, node_id, endpoint);
+ *     lists = timesync_load_lists(image, image_len, there, stored, stored_len);
+ *     timesync_look(image, image_len, tick, name, name_room, &offset, &named, &name_len, &dst_active, &sleep, &sleep_us);
+ *     timesync_attempt(image, image_len, answered, has_utc, utc_us, has_granularity, granularity, tick, &wait, &wait_us);
+ *
+ *   A load that is refused with 7 leaves the image as it was: go on with the clock that timesync_new made, or with empty lists, and tell the
+ *   administrator, who can send the trusted time source or the lists again.
  *
  * Arguments
- *   - A slice is a pointer and a length. Of a slice of length 0 nothing is read or written, and its pointer can be any that is not
- *     NULL. Every other pointer points to as many bytes as the length says, or to one number. No pointer may be NULL.
- *   - Slices and numbers that one call is lent must not overlap where one of them is not const. The functions cannot notice it, and
- *     what an overlapping call does is the caller's fault.
+ *   - A buffer is a pointer and a length. Of a buffer of length 0 nothing is read or written, and its pointer can be any that is not NULL.
+ *     Every other pointer points to as many bytes as the length says, or to one number. No pointer may be NULL.
+ *   - A buffer can have any address: its bytes need no alignment. The numbers that a call writes are ordinary C objects of their type.
+ *   - Buffers and numbers of one call must not overlap where one of them is not const. The functions cannot notice it, and what an
+ *     overlapping call does is the caller's fault.
  *   - Two calls on one image must not run at the same time, unless both take it as const.
  *   - A mark that is given by value (has_..., named, there, list_store, answered) says absent where it is 0 and present where it is any
  *     other number. What belongs to an absent mark is not looked at.
@@ -21,17 +39,20 @@
  *   - A call that may change the image returns its number in the lowest byte (0 or a refusal) and above it a code for each effect, one
  *     byte each, the first lowest; see TIMESYNC_ANSWER and TIMESYNC_EFFECT. The caller carries the effects out in that order. At most
  *     four effects are asked for at a time.
- *   - On a refusal every lent output, and the image, stay as they were. There is one exception: SetDSTOffset refused with 2 or 3 empties
+ *   - On a refusal every output, and the image, stay as they were. There is one exception: SetDSTOffset refused with 2 or 3 empties
  *     the windows in the image, counts a change and asks for the timer to be woken, and still leaves the other outputs as they were.
  *   - Where a call is taken, all its outputs are written. A value that may be missing has a mark beside it, 0 or 1, and is 0 where it is
- *     missing. What is copied stands at the front of its slice; the bytes past it stay as they were.
+ *     missing. What is copied stands at the front of its buffer; the bytes past it stay as they were.
  *
- * Every function that takes an image refuses a slice that is none with 8: one shorter than TIMESYNC_IMAGE_SIZE, or one that does not begin
- * with the magic, for instance a zeroed one on which timesync_new was not called. No other byte is tested. Each is read totally: a mark is
- * set where it is not 0, a limit and a count are held at 8 and 16, a granularity above 4 stands for NoTime and a time source above 16 for
- * None, and of a name at most 64 bytes are there. So bytes that were damaged behind the magic stand for some state, and the calls answer for
- * that state; a walk over it still has at most 41 moments, and its record at most TIMESYNC_RECORD_MAX bytes. Only timesync_new takes a slice
- * of any bytes. A slice longer than an image is fine, and the bytes past the image stay as they were.
+ * Which bytes are an image. A buffer of at least TIMESYNC_IMAGE_SIZE bytes that begins with the 4 bytes of the magic is an image, and nothing
+ * else decides it. Every function that takes an image refuses any other buffer with 8, for instance a zeroed one on which timesync_new was
+ * not called; timesync_new alone takes a buffer of any bytes. A buffer longer than an image is fine, and the bytes past the image stay as
+ * they were.
+ *
+ * Damaged bytes. Behind the magic a byte can have any value: a mark is set where it is not 0, a limit or a count of zones above 8 counts as
+ * 8 and one of windows above 16 as 16, a granularity above 4 is NoTime, a time source above 16 is None, and of a name at most 64 bytes are
+ * read. So an image with damaged bytes stands for some state, and the calls answer for that state. A walk over it has at most 41 moments, and
+ * its record at most TIMESYNC_RECORD_MAX bytes.
  *
  * The image. Numbers are little endian, offsets in two's complement. The layout is given for tests and for debuggers: only the functions
  * below write an image, and timesync_new makes one. Keep it in RAM: flash holds the moment, the trusted time source and the record.
@@ -84,8 +105,17 @@
  *     16    640  8 zones, 80 bytes each, written as in a record; what is left of the 80 is not used
  *    656    384  16 windows, 24 bytes each, written as in a record; what is left of the 24 is not used
  *
- * A call on the clock, the client or the timer that is taken writes that part whole, its unused bytes as 0. A call on the lists writes counts,
- * entries and the generation, and no other byte of the table.
+ * Absent values. In the clock, the client and the timer an absent value is written as mark 0 and zeros in its own bytes: the tick of a clock
+ * that is not set; fabric index, endpoint and node where there is no trusted time source; the tick of an event that no attempt has asked
+ * for; all 8 bytes of a timer that has seen nothing. In an entry of the table mark 0 is the last byte that is written, and the bytes behind
+ * it are not used. The bytes of an absent value are not looked at.
+ *
+ * What a call writes. A call that is taken writes these parts whole, also where nothing in them is new: the clock for SetUTCTime,
+ * SetTrustedTimeSource, the clock's own settings, its load and its reset; the timer for timesync_look; the clock and the client for
+ * timesync_attempt; the client for timesync_source_changed. Unused bytes are written as 0, marks as 0 or 1, and a granularity or a time
+ * source that is out of range as 0. So on damaged bytes even a call that changes nothing can change bytes, though not what they stand for; on
+ * an image that only calls have written it then changes no byte. A call on the lists writes the counts and the entries of the lists that it
+ * replaces and, but for a load, the generation, and no other byte of the table.
  *
  * Requests and records
  *   section  a count in one byte, then so many entries and nothing else
@@ -155,22 +185,22 @@ extern "C" {
 #define TIMESYNC_IMAGE_SIZE 1136 /* an image */
 #define TIMESYNC_NAME_MAX 64     /* the longest name of a zone */
 #define TIMESYNC_RECORD_MAX 962  /* the longest record, at limits 8 and 16 */
-#define TIMESYNC_MOMENTS_MAX 328 /* the longest walk: 41 moments of 8 bytes */
+#define TIMESYNC_MOMENTS_MAX 328 /* the longest walk: 41 moments of 8 bytes on a damaged image; over accepted lists at most 40 */
 #define TIMESYNC_ZONES_MAX 8     /* the largest zone limit, in entries */
 #define TIMESYNC_WINDOWS_MAX 16  /* the largest window limit, in entries */
 
 /* ---- Answers ---- */
 
 #define TIMESYNC_OK 0                 /* the call was taken */
-#define TIMESYNC_UNREADABLE 1         /* a request or a number that says nothing */
+#define TIMESYNC_UNREADABLE 1         /* a request that cannot be read, or a number out of range */
 #define TIMESYNC_CONSTRAINT_ERROR 2   /* an entry breaks a rule, or an index is past the list */
 #define TIMESYNC_RESOURCE_EXHAUSTED 3 /* more entries than the limit */
 #define TIMESYNC_INVALID_COMMAND 4    /* fabric index 0 */
 #define TIMESYNC_COMMAND_NOT_FOUND 5  /* a command on the lists, and there is no list store */
 #define TIMESYNC_ATTRIBUTE_NOT_FOUND 6 /* a reading of the lists, and there is no list store */
 #define TIMESYNC_BAD_RECORD 7         /* a record that cannot be read or taken here */
-#define TIMESYNC_BAD_LIMITS 8         /* limits that are not allowed, or a slice that is no image */
-#define TIMESYNC_NO_SPACE 9           /* an output slice is shorter than what is copied into it */
+#define TIMESYNC_BAD_LIMITS 8         /* limits that are not allowed, or a buffer that is not an image */
+#define TIMESYNC_NO_SPACE 9           /* an output buffer is shorter than what is copied into it */
 
 /* the number of the answer, of what a call returned */
 #define TIMESYNC_ANSWER(returned) ((unsigned)((uint64_t)(returned) & 0xFFu))
@@ -195,7 +225,7 @@ extern "C" {
 #define TIMESYNC_EMIT_TIME_FAILURE 0x23u
 #define TIMESYNC_EMIT_MISSING_TRUSTED_TIME_SOURCE 0x24u
 #define TIMESYNC_WAKE_TIMER 0x30u    /* look again, with timesync_look */
-#define TIMESYNC_WAKE_CLIENT 0x31u   /* tell the client, with timesync_source_changed */
+#define TIMESYNC_WAKE_CLIENT 0x31u   /* call timesync_source_changed, which says what comes next */
 #define TIMESYNC_STORE_RECORD 0x40u  /* store the record that was copied into out */
 #define TIMESYNC_REMOVE_RECORD 0x41u
 #define TIMESYNC_STORE_MOMENT 0x42u  /* store the moment that the call was given */
@@ -256,8 +286,8 @@ extern "C" {
 #define TIMESYNC_SLEEP_AT_MOST 2     /* so many microseconds, or until an effect wakes the timer */
 
 #define TIMESYNC_WAIT_ATTEMPT_NOW 0 /* make an attempt at once */
-#define TIMESYNC_WAIT_FOR 1         /* so many microseconds, or until the source changes; then an attempt */
-#define TIMESYNC_WAIT_FOR_SOURCE 2  /* until the source changes */
+#define TIMESYNC_WAIT_FOR 1         /* make an attempt after so many microseconds; an effect that wakes the client ends the wait */
+#define TIMESYNC_WAIT_FOR_SOURCE 2  /* make none until an effect wakes the client */
 
 /* ======== Making an image ======== */
 
@@ -265,12 +295,12 @@ extern "C" {
 uint64_t timesync_image_size(void);
 
 /*
- * Makes a new image in a slice that may hold anything: with a list store of these limits where list_store is not 0 (1 to 8 zones, 1 to 16
+ * Makes a new image in a buffer that may hold anything: with a list store of these limits where list_store is not 0 (1 to 8 zones, 1 to 16
  * windows), else without one, and then the limits are not looked at. The lists are empty, the generation is 0, the clock is not set and
  * its last known moment is build (the moment the firmware was built), there is no trusted time source, and the client has the period
  * given, in microseconds. What comes next for the client is an attempt at once.
  * Writes the whole image and nothing past it. No effects.
- * Refuses with 8: limits that are not allowed, or a slice shorter than an image.
+ * Refuses with 8: limits that are not allowed, or a buffer shorter than an image.
  */
 uint64_t timesync_new(uint8_t *image, size_t image_len, uint8_t list_store, size_t zone_limit, size_t window_limit, uint64_t build,
                       uint64_t period);
@@ -280,8 +310,8 @@ uint64_t timesync_new(uint8_t *image, size_t image_len, uint8_t list_store, size
 /*
  * SetUTCTime: sets the clock at a tick, as an administrator. granularity is kept one step lower and never below Minutes; source is the
  * request's time source where has_source is not 0, which is tested and then ignored: the clock's becomes Admin.
- * A setting that changes the moment, the granularity or the source, or that is the first, is kept and anchored at the tick; any other
- * leaves the clock as it was, its anchor too. The moment is not stored in flash.
+ * A setting of a clock that is not set, or one that changes the moment, the granularity or the source, is kept, and the clock counts on from
+ * the tick; any other leaves the clock as it was, the tick of its last setting too. The moment is not stored in flash.
  * Effects: where it was kept report UTCTime, Granularity, TimeSource; then, with a list store and kept or not, wake the timer.
  * Refuses, in this order, with 8 and 1 (granularity above 4, or a source that is there and above 16).
  */
@@ -321,8 +351,8 @@ uint64_t timesync_set_dst_offset(uint8_t *image, size_t image_len, const uint8_t
 /* ======== Load and reset ======== */
 
 /*
- * Loads the lists from the record in flash where there is not 0; without a record the image stays as it is. Both lists are replaced, no
- * change is counted and there are no effects: load before the timer's first look, or look again by yourself.
+ * Loads the lists from the record in flash where the mark is not 0; without a record the image stays as it is. Both lists are replaced and no
+ * change is counted. No effects: the timer is not woken.
  * With no list store the call is taken and does nothing, and stored is not looked at.
  * Refuses, in this order, with 8 and 7 (a record that cannot be read or that the commands would not accept; one of no bytes, too), and
  * then the lists stay as they were.
@@ -347,7 +377,7 @@ uint64_t timesync_load_clock(uint8_t *image, size_t image_len, uint64_t build, u
 
 /*
  * Factory reset of the clock: as new, at the build moment and with no trusted time source.
- * Effects: remove the moment, remove the source. Nobody is woken.
+ * Effects: remove the moment, remove the source. Neither the timer nor the client is woken.
  * Refuses with 8.
  */
 uint64_t timesync_reset_clock(uint8_t *image, size_t image_len, uint64_t build);
@@ -356,7 +386,7 @@ uint64_t timesync_reset_clock(uint8_t *image, size_t image_len, uint64_t build);
 
 /*
  * Sets the clock with a source of any kind, as timesync_set_utc_time does with Admin, and stores nothing. *changed is 1 where the moment,
- * the lowered granularity or the source is another one, else 0; a first setting can be kept with *changed 0.
+ * the lowered granularity or the source is another one, else 0.
  * Effects where it was kept: report UTCTime, Granularity, TimeSource. The timer is not woken.
  * Refuses, in this order, with 8 and 1 (granularity above 4, or source above 16).
  */
@@ -390,8 +420,9 @@ uint64_t timesync_trusted_time_source(const uint8_t *image, size_t image_len, ui
                                       uint64_t *endpoint);
 
 /*
- * LocalTime at a tick: *there is 1 and *local_us UTC plus the offsets of the zone and of the active window, held between 0 and the largest
- * 64-bit number, or both are 0: null, where the clock is not set or no window is usable. Between windows it is UTC plus the zone's offset.
+ * LocalTime at a tick: *there is 1 and *local_us UTC plus the offsets of the zone and of the active window, but not below 0 and not above the
+ * largest 64-bit number, or both are 0: null, where the clock is not set or no window is usable. Between windows it is UTC plus the zone's
+ * offset.
  * Refuses, in this order, with 8 and 6 (on a set clock; on one that is not set the answer is null, list store or none).
  */
 uint64_t timesync_local_time(const uint8_t *image, size_t image_len, uint64_t tick, uint64_t *there, uint64_t *local_us);
@@ -453,7 +484,7 @@ uint64_t timesync_next_transition(const uint8_t *image, size_t image_len, uint64
 /*
  * Walks from the moment start to the next transition until there is none. The moments are copied to the front of moments, 8 bytes each,
  * little endian and ascending, start first: *steps + 1 of them. Over lists that were accepted there are at most
- * zone limit + 2 * window limit - 1 steps.
+ * zone limit + 2 * window limit - 1 steps, so at most 40 moments; only a damaged image can have 41.
  * Refuses, in this order, with 8, 6 and 9 (TIMESYNC_MOMENTS_MAX bytes always suffice).
  */
 uint64_t timesync_walk(const uint8_t *image, size_t image_len, uint64_t start, uint8_t *moments, size_t moments_room, uint64_t *steps);
@@ -473,8 +504,8 @@ uint64_t timesync_record(const uint8_t *image, size_t image_len, uint8_t *out, s
  * Effects, each where it is due: emit TimeZoneStatus, emit DSTStatus, emit DSTTableEmpty.
  * What TimeZoneStatus carries stands in *offset, *named, *name_len and at the front of name; what DSTStatus carries in *dst_active. Where
  * the event is not due they are 0, and no byte of name changes.
- * With no list store the look is taken, changes nothing and sleeps TIMESYNC_SLEEP_NEVER; on a clock that is not set it changes nothing and
- * sleeps TIMESYNC_SLEEP_UNTIL_WOKEN.
+ * With no list store the look sleeps TIMESYNC_SLEEP_NEVER, else on a clock that is not set TIMESYNC_SLEEP_UNTIL_WOKEN; in both cases it is
+ * taken, no event is due and what the last look saw stays.
  * Refuses, in this order, with 8 and 9 (a name is to be emitted and name is too short): the timer has then not looked.
  */
 uint64_t timesync_look(uint8_t *image, size_t image_len, uint64_t tick, uint8_t *name, size_t name_room, int32_t *offset, uint64_t *named,
@@ -487,9 +518,10 @@ uint64_t timesync_look(uint8_t *image, size_t image_len, uint64_t tick, uint8_t 
  * else a moment and a granularity, each where its mark is not 0. A missing granularity and a number above 4 count as Seconds, Microseconds
  * as Milliseconds; a missing moment and NoTime bring no time. Where the clock has no trusted time source, what was brought is not looked
  * at.
- * A time that was brought is set as by timesync_rtc_set_utc_time_persist with source NodeTimeCluster. The timer is not woken: look by
- * yourself after a time was applied.
- * *wait is one of TIMESYNC_WAIT_..., and *wait_us the time where it is TIMESYNC_WAIT_FOR, else 0.
+ * The clock is asked for its trusted time source in this call, when the answer has come, and not when the exchange was opened: an answer from
+ * a source that was cleared in between is not applied, and MissingTrustedTimeSource and TimeFailure are emitted where they are due.
+ * A time that was brought is set as by timesync_rtc_set_utc_time_persist with source NodeTimeCluster. The timer is not woken.
+ * *wait is TIMESYNC_WAIT_FOR and *wait_us the time, or TIMESYNC_WAIT_FOR_SOURCE and *wait_us 0 where there is no trusted time source.
  * Effects: of an applied time report UTCTime, Granularity, TimeSource where it was kept, then store the moment utc_us where it is due; of
  * no time emit MissingTrustedTimeSource (no source, or a failed exchange) and emit TimeFailure, each at most once in 3,600 s of ticks.
  * Refuses with 8.
@@ -498,7 +530,8 @@ uint64_t timesync_attempt(uint8_t *image, size_t image_len, uint8_t answered, ui
                           uint8_t granularity, uint64_t tick, uint64_t *wait, uint64_t *wait_us);
 
 /*
- * The trusted time source has changed: the retries start over, and *wait says whether to make an attempt at once or to wait for a source.
+ * The trusted time source was set or cleared: the retries start over. *wait is TIMESYNC_WAIT_ATTEMPT_NOW where there is a source and
+ * TIMESYNC_WAIT_FOR_SOURCE where there is none, and *wait_us is 0.
  * Call it after each TIMESYNC_WAKE_CLIENT, and where an attempt is under way after that attempt's answer. No effects. Refuses with 8.
  */
 uint64_t timesync_source_changed(uint8_t *image, size_t image_len, uint64_t *wait, uint64_t *wait_us);

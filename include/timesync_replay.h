@@ -23,8 +23,8 @@ extern "C" {
  *               front of name; *active whether a window is active, and *window the offset of the first that is, or 0; *usable whether one is
  *               usable; *has_next whether there is a transition after at, and *next its moment, or 0
  *   the lists   out and *used, as with timesync_record, and the generation
- * Refuses, in this order, with 8 (limits), 1 (bytes that are no history) and 9 (moments, name or out is too short). On a refusal nothing is
- * written.
+ * Refuses, in this order, with 8 (limits), 1 (bytes that are not a history) and 9 (moments, name or out is too short). On a refusal
+ * nothing is written.
  */
 uint64_t timesync_replay(size_t zone_limit, size_t window_limit, const uint8_t *history, size_t history_len, uint64_t start, uint64_t at,
                          uint8_t *moments, size_t moments_len, uint64_t *steps, uint8_t *name, size_t name_len, int32_t *zone,

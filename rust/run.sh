@@ -33,6 +33,15 @@ run_c() {
     diff "$work/due" "$work/said"
 }
 
+run_boot() {
+    "$work/boot" >"$work/said" && diff tests/c/boot.txt "$work/said"
+}
+
+# The header names the functions that the archive needs from elsewhere
+needs() {
+    [ "$(nm -u "$lib/libcontroller.a" | sed -n 's/^ *U //p' | sort -u | xargs)" = "memcpy memset" ]
+}
+
 # The names that an archive exports, without their prefix
 exported() {
     nm -g --defined-only "$1" | sed -n 's/.* T timesync_//p' | sort
@@ -69,6 +78,7 @@ for archive in libcontroller.a libreplay.a; do
     fi
 done
 part "the replay, in an archive of its own" one_replay
+part "what the archive needs, as the header says" needs
 for header in timesync.h timesync_replay.h; do
     part "$header, C99" "$CC" $c99 -fsyntax-only -x c "$include/$header"
     if command -v "$CXX" >/dev/null; then
@@ -77,6 +87,8 @@ for header in timesync.h timesync_replay.h; do
 done
 part "C program, compiled" "$CC" $c99 -O1 -I "$include" tests/c/main.c "$lib/libcontroller.a" -o "$work/main"
 part "C program, run" run_c
+part "boot, compiled" "$CC" $c99 -O1 -I "$include" tests/c/boot.c "$lib/libcontroller.a" -o "$work/boot"
+part "boot, run" run_boot
 part "stack, compiled" "$CC" $c99 -O1 -I "$include" tests/c/stack.c "$lib/libcontroller.a" "$lib/libreplay.a" -Wl,-z,now -o "$work/stack"
 part "stack of each call, within its bound" run_stack
 sed 's/^/        /' "$work/stack.txt"

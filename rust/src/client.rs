@@ -17,9 +17,9 @@ pub struct Told {
 pub enum Wait {
     /// An attempt at once.
     AttemptNow,
-    /// A wait of so many microseconds or until the source changes, then an attempt.
+    /// An attempt after so many microseconds. Waking the client ends the wait.
     For(u64),
-    /// A wait until the source changes.
+    /// No attempt until the client is woken.
     ForSource,
 }
 
@@ -38,13 +38,14 @@ pub struct TimeSyncClient<I> {
 }
 
 impl<I: AsRef<[u8]> + AsMut<[u8]>> TimeSyncClient<I> {
-    /// Over the bytes of an image. Each call is refused with BadLimits where they are none.
+    /// Over the bytes of an image. Each call is refused with BadLimits where they are not one.
     pub fn over(image: I) -> Self {
         TimeSyncClient { image }
     }
 
-    /// An attempt at a tick, with what the exchange with the trusted time source brought; `None` where it failed. The timer is not woken
-    /// by a time that was applied.
+    /// An attempt at a tick, with what the exchange with the trusted time source brought; `None` where it failed. The clock is asked for its
+    /// trusted time source in this call, when the answer has come: an answer from a source that was cleared in between is not applied, and
+    /// MissingTrustedTimeSource and TimeFailure are emitted where they are due. The timer is not woken by a time that was applied.
     pub fn attempt(&mut self, told: Option<Told>, tick: u64) -> Outcome<Wait> {
         let (mut wait, mut wait_us) = (0, 0);
         let reading = told.unwrap_or(Told {
@@ -65,7 +66,8 @@ impl<I: AsRef<[u8]> + AsMut<[u8]>> TimeSyncClient<I> {
         Outcome::with(returned, || wait_of(wait, wait_us))
     }
 
-    /// The trusted time source has changed: the retries start over.
+    /// The trusted time source was set or cleared: the retries start over. Answers [`Wait::AttemptNow`] where there is a source, else
+    /// [`Wait::ForSource`]. Where an attempt is under way, call it after that attempt's answer.
     pub fn source_changed(&mut self) -> Outcome<Wait> {
         let (mut wait, mut wait_us) = (0, 0);
         let returned = entry::source_changed(self.image.as_mut(), &mut wait, &mut wait_us);

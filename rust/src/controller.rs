@@ -87,7 +87,7 @@ impl<B: AsRef<[u8]> + AsMut<[u8]>> Controller<B> {
 }
 
 impl<B: AsRef<[u8]>> Controller<B> {
-    /// Over bytes that hold an image already. Refused with BadLimits where they are none.
+    /// Over bytes that hold an image already. Refused with BadLimits where they are not one.
     pub fn from_image(bytes: B) -> Result<Self, Refusal> {
         let mut value = 0;
         answer(entry::utc_time_granularity(bytes.as_ref(), &mut value)).map(|()| Controller { bytes })

@@ -562,7 +562,7 @@ pub fn attempt(
     }
 }
 
-/// The trusted time source has changed. Refuses with 8.
+/// The trusted time source was set or cleared. Refuses with 8.
 #[inline]
 pub fn source_changed(image: &mut [u8], wait: &mut u64, wait_us: &mut u64) -> u64 {
     // SAFETY: each pointer comes from a slice with its length or from a reference, valid for the call and not aliased where written.

@@ -68,7 +68,7 @@ pub struct TimeSyncHandler<I> {
 }
 
 impl<I: AsRef<[u8]>> TimeSyncHandler<I> {
-    /// Over the bytes of an image. Each call is refused with BadLimits where they are none.
+    /// Over the bytes of an image. Each call is refused with BadLimits where they are not one.
     pub fn over(image: I) -> Self {
         TimeSyncHandler { image }
     }
@@ -80,7 +80,7 @@ impl<I: AsRef<[u8]>> TimeSyncHandler<I> {
         Ok(value)
     }
 
-    /// LocalTime at a tick: null where the clock is not set or no window is usable.
+    /// LocalTime at a tick: null where the clock is not set or no window is usable. Between windows it is UTC plus the zone's offset.
     pub fn local_time(&self, tick: u64) -> Result<Option<u64>, Refusal> {
         let (mut there, mut us) = (0, 0);
         answer(entry::local_time(self.image.as_ref(), tick, &mut there, &mut us))?;
@@ -194,7 +194,8 @@ impl<I: AsRef<[u8]> + AsMut<[u8]>> TimeSyncHandler<I> {
         Outcome::with(returned, || used as usize)
     }
 
-    /// A look of the transition timer at a tick.
+    /// A look of the transition timer at a tick. On a clock that is not set, and with no list store, no event is due and what the last look
+    /// saw stays.
     pub fn look(&mut self, tick: u64) -> Outcome<Look> {
         let mut name = [0; TIME_ZONE_NAME_MAX];
         let (mut offset, mut named, mut len, mut active, mut sleep, mut sleep_us) = (0, 0, 0, 0, 0, 0);

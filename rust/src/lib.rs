@@ -1,7 +1,8 @@
 //! Clock, time-zone lists, timer and client of a Matter node, over a proved static library.
 //!
-//! All state is one image of [`IMAGE_SIZE`] bytes, which begins with its magic; every other byte of it is read totally, so bytes that were
-//! damaged behind the magic stand for some state. A [`Controller`] owns it or holds it in lent bytes, and shows it as
+//! All state is one image. Bytes are an image where there are at least [`IMAGE_SIZE`] of them and they begin with the 4 bytes of the magic;
+//! nothing else decides it, so an image with damaged bytes behind the magic stands for some state. A [`Controller`] owns it or holds it in
+//! lent bytes, and shows it as
 //!
 //! - [`Rtc`]: the clock,
 //! - [`TimeZoneStore`]: the lists of zones and windows,
@@ -12,6 +13,10 @@
 //! [`Effects`] that the caller is to carry out, in order. Moments are microseconds since the Matter epoch, ticks microseconds of a
 //! monotonic counter. [`entry`] has every function of the library as it is at C. The feature `replay` adds whole histories on a new list
 //! store, out of an archive of its own; firmware does without it.
+//!
+//! At boot make the controller, load the clock ([`Rtc::load_persist`]) and the lists ([`TimeZoneStore::load`]) with or without what flash
+//! holds of them, and then make the first look ([`TimeSyncHandler::look`]) and the first attempt ([`TimeSyncClient::attempt`]). After a load
+//! that was refused with BadRecord go on with the new clock, or with empty lists, and tell the administrator.
 //!
 //! ```no_run
 //! use timesync::{Controller, ListStore};
@@ -65,5 +70,5 @@ pub const TIME_ZONE_NAME_MAX: usize = 64;
 /// The longest record of both lists, in bytes.
 pub const RECORD_MAX: usize = 962;
 
-/// The most moments that a walk has, the starting moment among them.
+/// The most moments that a walk has on a damaged image, the starting moment among them. Over accepted lists there are at most 40.
 pub const MOMENTS_MAX: usize = 41;

@@ -90,7 +90,7 @@ numbered! {
 numbered! {
     /// Why a call is turned down.
     Refusal {
-        /// A request, a number or a history that says nothing.
+        /// A request or a history that cannot be read, or a number out of range.
         Unreadable = 1,
         /// An entry breaks a rule, or an index is past the list.
         ConstraintError = 2,
@@ -104,9 +104,9 @@ numbered! {
         AttributeNotFound = 6,
         /// A record in flash that cannot be read, or that is not taken here.
         BadRecord = 7,
-        /// Limits that are not allowed, or bytes that are no image.
+        /// Limits that are not allowed, or bytes that are not an image.
         BadLimits = 8,
-        /// An output slice is shorter than what is copied into it.
+        /// An output buffer is shorter than what is copied into it.
         NoSpace = 9,
     }
 }
@@ -121,8 +121,8 @@ impl fmt::Display for Refusal {
             Refusal::CommandNotFound => "command not found",
             Refusal::AttributeNotFound => "attribute not found",
             Refusal::BadRecord => "bad record",
-            Refusal::BadLimits => "bad limits, or no image",
-            Refusal::NoSpace => "no space in an output slice",
+            Refusal::BadLimits => "bad limits, or not an image",
+            Refusal::NoSpace => "no space in an output buffer",
         })
     }
 }
@@ -170,7 +170,7 @@ pub enum Effect {
     Emit(Event),
     /// Wake the transition timer, which then looks.
     WakeTimer,
-    /// Tell the client that the trusted time source changed.
+    /// Tell the client that the trusted time source was set or cleared, which then says what comes next.
     WakeClient,
     /// Store the record of the lists, which the call copied out.
     StoreRecord,

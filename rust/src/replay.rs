@@ -28,8 +28,8 @@ pub struct Replayed {
 
 /// Makes a list store, runs the calls of a history on it, walks from a moment on and looks at another one. A history is calls one after the
 /// other: a kind (0 SetTimeZone, 1 SetDSTOffset, 2 load, 3 load without a record, 4 factory reset), and for the first three a length in 4
-/// bytes, little endian, and so many bytes. Refused with BadLimits, with Unreadable where the bytes are no history, and with NoSpace where the
-/// record does not fit.
+/// bytes, little endian, and so many bytes. Refused with BadLimits, with Unreadable where the bytes are not a history, and with NoSpace
+/// where the record does not fit.
 pub fn replay(limits: ListStore, history: &[u8], start: u64, at: u64, record: &mut [u8]) -> Result<Replayed, Refusal> {
     let (mut moments, mut name) = ([0; 8 * MOMENTS_MAX], [0; TIME_ZONE_NAME_MAX]);
     let (mut steps, mut used, mut generation) = (0, 0, 0);

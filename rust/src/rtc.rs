@@ -48,7 +48,7 @@ pub struct Rtc<I> {
 }
 
 impl<I: AsRef<[u8]>> Rtc<I> {
-    /// Over the bytes of an image. Each call is refused with BadLimits where they are none.
+    /// Over the bytes of an image. Each call is refused with BadLimits where they are not one.
     pub fn over(image: I) -> Self {
         Rtc { image }
     }

@@ -100,7 +100,7 @@ pub struct TimeZoneStore<I> {
 }
 
 impl<I: AsRef<[u8]>> TimeZoneStore<I> {
-    /// Over the bytes of an image. Each call is refused with BadLimits where they are none.
+    /// Over the bytes of an image. Each call is refused with BadLimits where they are not one.
     pub fn over(image: I) -> Self {
         TimeZoneStore { image }
     }
@@ -155,7 +155,8 @@ impl<I: AsRef<[u8]>> TimeZoneStore<I> {
         Ok(value as u32)
     }
 
-    /// From a moment on to the next transition, until there is none.
+    /// From a moment on to the next transition, until there is none. Over accepted lists it takes at most
+    /// zone limit + 2 × window limit − 1 steps.
     pub fn walk(&self, start: u64) -> Result<Walk, Refusal> {
         let mut bytes = [0; 8 * MOMENTS_MAX];
         let mut steps = 0;
@@ -173,8 +174,8 @@ impl<I: AsRef<[u8]>> TimeZoneStore<I> {
 }
 
 impl<I: AsRef<[u8]> + AsMut<[u8]>> TimeZoneStore<I> {
-    /// Loads the lists from the record that flash holds, if it holds one. No change is counted and nobody is woken. Refused with BadRecord
-    /// where the record is none or would not be accepted, and then the lists stay as they were.
+    /// Loads the lists from the record that flash holds, if it holds one. No change is counted and the timer is not woken. Refused with
+    /// BadRecord where the record cannot be read or would not be accepted, and then the lists stay as they were.
     pub fn load(&mut self, stored: Option<&[u8]>) -> Outcome {
         Outcome::from_returned(entry::load_lists(
             self.image.as_mut(),

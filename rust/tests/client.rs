@@ -59,6 +59,18 @@ fn without_a_source() {
 }
 
 #[test]
+fn an_answer_from_a_source_that_was_cleared() {
+    // the source was there when the exchange was opened: what it brought is not applied
+    let image = prepared(sourced(HOUR), &[Call::SetTrustedTimeSource(1, 0, 0, 0)]);
+    let (effects, lent) = taken(&image, reading(Some(9 * DAY), Some(4), 5));
+    assert_eq!(effects, [Emit(Event::MissingTrustedTimeSource), Emit(Event::TimeFailure)]);
+    assert_eq!(lent.n[..2], [2, 0]);
+    assert_eq!(taken(&lent.image, Call::UtcTime(5)).1.n[..2], [0, 7 * DAY]);
+    // and the change that comes after it makes no attempt
+    assert_eq!(taken(&lent.image, Call::SourceChanged).1.n[..2], [2, 0]);
+}
+
+#[test]
 fn failures_double_the_wait() {
     // up to the period of ten minutes, and a source change starts over
     let mut image = prepared(sourced(10 * MINUTE), &[failure(10)]);

@@ -169,7 +169,7 @@ fn the_clocks_own_setting() {
     assert_eq!((effects, kept.n[0]), (vec![StoreMoment], 0));
     // the persisted moment was replaced: the same again stores nothing
     assert_eq!(taken(&kept.image, persist(9 * DAY, 6)).0, []);
-    // a first setting that changes nothing is kept: the image has the moment and the codes, but no anchor
+    // on a clock that is not set a setting that changes nothing is kept; only a damaged image has such a clock
     let mut unset = lent.image;
     unset[CLOCK + 2] = 0;
     let (effects, first) = taken(&unset, set(9 * DAY, 3));

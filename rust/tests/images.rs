@@ -11,7 +11,7 @@ use timesync::entry;
 /// The bytes of the magic.
 const MAGIC: std::ops::Range<usize> = 0..4;
 
-/// The number that a call on a slice that is no image answers: fabric index 0 comes before the image.
+/// The number that a call on a buffer that is not an image answers: fabric index 0 comes before the image.
 fn refused(call: &Call) -> u64 {
     match call {
         Call::SetTrustedTimeSource(0, ..) => 4,
@@ -31,7 +31,7 @@ fn as_it_was(call: &Call, returned: u64, before: &Lent, after: &Lent) {
     assert!(*after == expected, "{call:?}");
 }
 
-/// Each call does what the reference does. On a slice that is no image it is refused; an image is one still when the call is over.
+/// Each call does what the reference does. On a buffer that is not an image it is refused; an image is one still when the call is over.
 fn held(library: &mut Library, calls: &[Call], image: &[u8]) {
     for call in calls {
         let before = Lent::new(image, 962);
@@ -106,7 +106,8 @@ fn short_and_zeroed() {
 #[test]
 fn long_images() {
     let (mut library, calls) = (Library::new(), every_call());
-    for past in [1, 7, 500] {
+    // the memory ends with the slice, so these images begin at every alignment
+    for past in (1..=8).chain([500]) {
         let mut image = busy();
         image.extend(std::iter::repeat(0xC3).take(past));
         for call in &calls {

@@ -19,7 +19,7 @@ fn number(image: &[u8], room: usize, call: Call) -> u64 {
 }
 
 /// An image that has lost its magic.
-fn no_image(mut image: Vec<u8>) -> Vec<u8> {
+fn without_magic(mut image: Vec<u8>) -> Vec<u8> {
     image[0] ^= 1;
     image
 }
@@ -223,7 +223,7 @@ fn bad_limits() {
         let mut image = vec![0x77; IMAGE_SIZE];
         assert_eq!(entry::new(&mut image, 1, zone_limit, window_limit, 1, 1), 8);
         assert!(image.iter().all(|b| *b == 0x77));
-        // without a list store nobody looks at the limits
+        // without a list store the limits are not looked at
         assert_eq!(entry::new(&mut image, 0, zone_limit, window_limit, 1, 1), 0);
         assert_eq!((&image[..5], &image[96..98]), (&b"TMS1\0"[..], &[0, 0][..]));
     }
@@ -307,7 +307,7 @@ fn the_longest_request() {
 
 #[test]
 fn the_first_of_two() {
-    let bad = no_image(busy());
+    let bad = without_magic(busy());
     let none = prepared_without();
     let image = busy();
     // 4 before 8
@@ -320,7 +320,7 @@ fn the_first_of_two() {
     assert_eq!(number(&bad, 0, Call::LoadLists(1, vec![])), 8);
     assert_eq!(number(&bad, 0, Call::LoadLists(0, vec![])), 8);
     assert_eq!(number(&bad, 0, Call::Record), 8);
-    let both = no_image(none.clone());
+    let both = without_magic(none.clone());
     assert_eq!(number(&both, 0, Call::SetDstOffset(vec![])), 8);
     assert_eq!(number(&both, 0, Call::Walk(0)), 8);
     // 5 before 1, 6 before 2 and 9

@@ -164,7 +164,7 @@ fn the_longest_sleep() {
 }
 
 #[test]
-fn a_window_inside_the_margin_is_slept_over() {
+fn a_window_inside_the_margin_is_never_seen() {
     let image = listed(&[(0, 0, None)], &[(3600, 1000, Some(2000))]);
     let (effects, before) = taken(&image, Call::Look(500));
     assert_eq!((effects, before.n), (vec![], [0, 0, 0, 2, 100_500]));

@@ -39,6 +39,17 @@ static uint64_t moment_at(size_t index)
     return moment;
 }
 
+/* the answer is the lowest byte of what a call returned, and effect i the byte above it with index i */
+static void read_what_is_returned(void)
+{
+    const uint64_t returned = UINT64_C(0xF7E6D5C4B3A29180), all_bits = UINT64_MAX;
+    const unsigned codes[] = {0x91, 0xA2, 0xB3, 0xC4, 0xD5, 0xE6, 0xF7};
+    EXPECT(TIMESYNC_ANSWER(returned) == 0x80 && TIMESYNC_ANSWER(all_bits) == 0xFF);
+    EXPECT(TIMESYNC_EFFECT(all_bits, 0) == 0xFF);
+    for (size_t i = 0; i < 7; i++)
+        EXPECT(TIMESYNC_EFFECT(returned, i) == codes[i]);
+}
+
 /* the effects of a call, in order, and no other */
 static int asks_for(uint64_t returned, size_t count, const unsigned *codes)
 {
@@ -48,12 +59,12 @@ static int asks_for(uint64_t returned, size_t count, const unsigned *codes)
     return TIMESYNC_EFFECT(returned, count) == 0;
 }
 
-/* ---- the parts of a controller's life ---- */
+/* ---- what a controller does, in order ---- */
 
 static void make_image(void)
 {
     EXPECT(timesync_image_size() == TIMESYNC_IMAGE_SIZE);
-    /* zeroed bytes are no image, and a slice that is too short cannot become one */
+    /* a zeroed buffer is not an image, and one that is too short cannot become one */
     EXPECT(timesync_generation(IMAGE, &value) == TIMESYNC_BAD_LIMITS);
     EXPECT(timesync_new(image, sizeof image - 1, 1, 2, 2, 5 * DAY, 10 * MINUTE) == TIMESYNC_BAD_LIMITS);
     EXPECT(timesync_new(IMAGE, 1, 2, 3, 5 * DAY, 10 * MINUTE) == TIMESYNC_OK);
@@ -212,6 +223,7 @@ static void without_a_list_store(void)
 
 int main(void)
 {
+    read_what_is_returned();
     make_image();
     send_lists();
     set_the_clock();
