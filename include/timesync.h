@@ -18,8 +18,8 @@
  *     timesync_look(image, image_len, tick, name, name_room, &offset, &named, &name_len, &dst_active, &sleep, &sleep_us);
  *     timesync_attempt(image, image_len, answered, has_utc, utc_us, has_granularity, granularity, tick, &wait, &wait_us);
  *
- *   A load that is refused with 7 leaves the image as it was: go on with the clock that timesync_new made, or with empty lists, and tell the
- *   administrator, who can send the trusted time source or the lists again.
+ *   A load that is refused with 7 leaves the image as it was. The clock's is refused only for its source: load it again with has_source 0, so
+ *   that the moment is not lost. The lists stay empty. Tell the administrator, who can send the trusted time source or the lists again.
  *
  * Arguments
  *   - A buffer is a pointer and a length. Of a buffer of length 0 nothing is read or written, and its pointer can be any that is not NULL.

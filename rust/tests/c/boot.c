@@ -44,13 +44,18 @@ static void carry_out(uint64_t returned)
     }
 }
 
-/* loads the clock and the lists; a refused load leaves what timesync_new made */
+static uint64_t load_clock(const struct flash *f, uint8_t has_source)
+{
+    return timesync_load_clock(image, sizeof image, BUILD, f->has_moment, f->moment, has_source, f->fab_idx, f->node_id, f->endpoint);
+}
+
+/* loads the clock and the lists; a source that is refused must not lose the moment, so the clock is loaded again without it */
 static void load(const struct flash *f)
 {
-    uint64_t clock = timesync_load_clock(image, sizeof image, BUILD, f->has_moment, f->moment, f->has_source, f->fab_idx, f->node_id,
-                                         f->endpoint);
-    if (clock == TIMESYNC_BAD_RECORD)
-        printf("  tell the administrator: the clock could not be loaded\n");
+    if (load_clock(f, f->has_source) == TIMESYNC_BAD_RECORD) {
+        printf("  tell the administrator: the trusted time source could not be loaded\n");
+        carry_out(load_clock(f, 0));
+    }
     uint64_t lists = timesync_load_lists(image, sizeof image, f->has_record, f->record, f->record_len);
     if (lists == TIMESYNC_BAD_RECORD)
         printf("  tell the administrator: the lists could not be loaded\n");
