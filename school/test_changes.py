@@ -466,7 +466,7 @@ UTC                local time                    offset  summer  what changes
 
     def test_held_at_the_end(self):
         text = shown(ZONE + "window +2147483647s from beginning to open", lists.utc_text(TOP))
-        self.assertIn("a correctly set clock shows Fri +586554-01-18 08:01:49.551615.", text)
+        self.assertIn("a correctly set clock shows Fri +586554-01-18 08:01:49.551615.", " ".join(text.split()))
         self.assertIn("    local time is held at the last moment that fits\n", text)
 
     def test_names_cannot_disturb_the_terminal(self):
