@@ -191,51 +191,167 @@ def record_rows():
         record(s)
 
 
-# ## The clock
+# ## Scripts on a clock: a new one of build moment 0
 
 DAY = 86_400_000_000
-MINUTES = 1
+MINUTES, SECONDS = 1, 2
+ADMIN = 2
+GRANULARITIES, TIME_SOURCES = 5, 17
 
 
-def reading(moment, at, tick):
-    row("t", (moment, at, tick), f"reliable {min(moment + max(tick - at, 0), TOP)}")
+class Clock:
+    def __init__(self):
+        self.bytes, self.answers = b"", []
+        self.start(0)
+
+    def start(self, build, stored=None, trusted=None):
+        """A clock that knows no time: after a reset, and after a load."""
+        self.utc, self.persisted = (build, build) if stored is None else (max(build, stored), stored)
+        self.granularity = self.source = 0
+        self.anchor, self.trusted = None, trusted
+
+    def setting(self, letter, moment, granularity, source, tick):
+        self.bytes += letter + struct.pack("<QBBQ", moment, granularity, source, tick)
+        if granularity >= GRANULARITIES:
+            return "no granularity"
+        if source >= TIME_SOURCES:
+            return "no time source"
+        new = (moment, max(granularity - 1, MINUTES), source)
+        changed = new != (self.utc, self.granularity, self.source)
+        kept = changed or self.anchor is None
+        if kept:
+            (self.utc, self.granularity, self.source), self.anchor = new, tick
+        return ("changed" if changed else "same") + (", kept" if kept else ", not kept")
+
+    def set(self, moment, granularity=SECONDS, source=ADMIN, tick=0):
+        self.answers.append(self.setting(b"S", moment, granularity, source, tick))
+        return self
+
+    def persist(self, moment, granularity=SECONDS, source=ADMIN, tick=0):
+        answer = self.setting(b"P", moment, granularity, source, tick)
+        if answer.endswith("kept"):
+            stored = abs(self.persisted - moment) >= DAY
+            self.persisted = moment if stored else self.persisted
+            answer += f", stored {moment}" if stored else ", not stored"
+        self.answers.append(answer)
+        return self
+
+    def trust(self, *source):
+        """Installs a source of fabric index, node and endpoint, and clears it where none is given."""
+        self.bytes += b"T" + struct.pack("<BQH", *source) if source else b"C"
+        if source == (self.trusted or ()):
+            self.answers.append("same source")
+        else:
+            self.answers.append(" ".join(map(str, ("stored source", *source))) if source else "removed source")
+        self.trusted = source or None
+        return self
+
+    def load(self, build, stored=None, trusted=None):
+        parts = (*(trusted or (0, 0, 0)), trusted is not None, stored is not None, stored or 0, build)
+        self.bytes += b"L" + struct.pack("<BQHBBQQ", *parts)
+        if trusted is not None and trusted[0] == 0:
+            self.answers.append("refused 7")
+        else:
+            self.start(build, stored, trusted)
+            self.answers.append("loaded")
+        return self
+
+    def reset(self, build):
+        self.bytes += b"R" + struct.pack("<Q", build)
+        self.start(build)
+        self.answers.append("reset")
+        return self
+
+    def read(self, *ticks):
+        for tick in ticks:
+            self.bytes += b"U" + struct.pack("<Q", tick)
+            shown, granularity, source = f"last known {self.utc}", 0, 0
+            if self.anchor is not None:
+                shown = f"reliable {min(self.utc + max(tick - self.anchor, 0), TOP)}"
+                granularity, source = self.granularity, self.source
+            trusted = "none trusted" if self.trusted is None else " ".join(map(str, ("trusted", *self.trusted)))
+            self.answers.append(f"{shown}, granularity {granularity}, time source {source}, {trusted}")
+        return self
+
+    def broken(self, given):
+        """Bytes that are no step: the script ends there."""
+        self.bytes += given
+        self.answers.append("no step")
+        return self
+
+    def row(self):
+        row("c", self.bytes, "; ".join(self.answers))
 
 
-def persisting(persisted, moment):
-    row("d", (persisted, moment), f"stored {moment}" if abs(persisted - moment) >= DAY else "not stored")
+def within(*numbers):
+    return [n for n in numbers if 0 <= n <= TOP]
 
 
-def lowering(own, new):
-    """The clock takes a granularity one step lower, and minutes stay minutes; an equal setting is not kept."""
-    lowered = max(new - 1, MINUTES)
-    row("g", (own, new), f"{lowered}" if lowered == own else f"{lowered} changed kept")
+def setting_rows():
+    """Readings before, at and after the tick of a setting, granularities and time sources, and what is new in a setting."""
+    for at in (0, 1, 1000, TOP - 1, TOP):
+        for moment in (0, 1, TOP - 1, TOP):
+            Clock().set(moment, tick=at).read(*within(0, 1, at - 1, at, at + 1, TOP)).row()
+    for own in range(GRANULARITIES):
+        clock = Clock()
+        for new in range(GRANULARITIES):
+            clock.reset(5).set(7, own, tick=0).set(7, new, tick=9).read(20)
+        clock.row()
+    clock = Clock().read(3)
+    for source in range(TIME_SOURCES):
+        clock.set(7, 0, source, source).read(20)
+    clock.set(7, 0, TIME_SOURCES, 19).set(7, GRANULARITIES, 0, 19).set(7, 255, 255, 19).persist(7, 4, 255, 19).persist(7, 255, 4, 19).read(20).row()
+    # equal settings, on a clock that is not set too; only the moment, the granularity or the time source is new
+    clock = Clock().set(0, 0, 0, 4).read(9).set(0, 0, 0, 5).read(9).set(0, 1, 0, 6).read(9).set(0, 2, 0, 7).read(9)
+    clock.set(1, 2, 0, 8).read(9).set(1, 3, 0, 9).read(9).set(1, 3, 1, 10).read(9, 10, 11).set(1, 3, 1, 3).read(11).row()
 
 
-def loading(build, stored, fabric):
-    if fabric == 0:
-        row("l", (build, stored, fabric), "refused 7, reliable 5")
-    else:
-        row("l", (build, stored, fabric), f"last known {max(build, stored)}")
+def persisting_rows():
+    """A moment is stored a day or more from the persisted one, whether the setting is kept or not."""
+    for stored in (0, 1, DAY, 2 * DAY, TOP - DAY, TOP):
+        clock = Clock()
+        for moment in within(*(stored + side * DAY + more for side in (-1, 0, 1) for more in (-1, 0, 1)), 0, TOP):
+            clock.load(0, stored).persist(moment).read(0)
+        clock.row()
+    clock = Clock().set(DAY, tick=1).persist(DAY, tick=2).persist(DAY, tick=3).read(5)
+    clock.persist(2 * DAY - 1).persist(2 * DAY, 3).set(0).persist(0).read(5).row()
+    Clock().persist(DAY - 1).persist(DAY).persist(1).persist(0).persist(DAY - 1).read(0).row()
+    Clock().reset(DAY).persist(2 * DAY - 1).persist(1).persist(2 * DAY).load(DAY).persist(1).persist(0).read(0).row()
+
+
+def loading_rows():
+    """Loads on a set clock: moments about the build moment, with a source, without one, and with one of no fabric."""
+    for build in (0, 10, TOP):
+        for stored in (0, 9, 10, 11, TOP):
+            clock = Clock().trust(3, 4, 5)
+            for fabric in (0, 1, 255):
+                clock.set(5).load(build, stored, (fabric, 1, 0)).read(0)
+            clock.persist(min(stored + DAY - 1, TOP)).persist(max(stored - DAY, 0)).read(0).row()
+    Clock().set(5).load(1000, 2000, (1, 2, 3)).read(9).load(1000, None, (1, 2, 4)).read(9).load(1000, 2000).read(9).load(1000).read(9).row()
+    Clock().load(1000, 2000, (0, 0, 0)).read(9).load(1000, None, (0, 2, 3)).read(9).reset(7).read(9).trust(1, 1, 1).set(8).reset(9).read(9).row()
+
+
+def source_rows():
+    """Sources that differ in one part, and a source beside a set clock."""
+    clock = Clock().trust().read(0)
+    for source in ((1, 2, 3), (1, 2, 3), (2, 2, 3), (2, 3, 3), (2, 3, 4), (255, TOP, 65535), (255, TOP - 1, 65535), (255, TOP - 1, 65534), ()):
+        clock.trust(*source).read(0)
+    clock.trust().trust(1, 0, 0).read(0).trust(1, 0, 1).trust(1, 1, 1).trust(2, 1, 1).trust().read(0).row()
+    Clock().set(DAY, 4, 16, 5).trust(1, 2, 3).read(6).set(DAY, 4, 16, 7).read(8).persist(DAY + 1, 4, 16, 9).read(10).trust().read(11).row()
+    Clock().trust(1, 2, 3).set(6).read(0).trust(1, 2, 3).persist(6).load(0, 8, (1, 2, 3)).trust(1, 2, 3).read(0).reset(9).trust().read(0).row()
+
+
+def broken_rows():
+    """A letter that names no step, and every step with its last byte missing."""
+    for step in (Clock().set(7), Clock().persist(7), Clock().trust(1, 2, 3), Clock().load(1, 2, (1, 2, 3)), Clock().reset(7), Clock().read(7)):
+        Clock().set(9).broken(step.bytes[:-1]).row()
+    Clock().set(9).read(1).broken(b"X" + b"U" * 40).row()
+    Clock().broken(b"\0").row()
 
 
 def clock_rows():
-    for at in (0, 1, 1000, TOP - 1, TOP):
-        for tick in (0, 1, at - 1, at, at + 1, TOP):
-            for moment in (0, 1, TOP - 1, TOP):
-                if 0 <= tick <= TOP:
-                    reading(moment, at, tick)
-    for persisted in (0, 1, DAY, 2 * DAY, TOP - DAY, TOP):
-        for moment in (persisted - DAY - 1, persisted - DAY, persisted - DAY + 1, persisted, persisted + DAY - 1, persisted + DAY,
-                       persisted + DAY + 1, 0, TOP):
-            if 0 <= moment <= TOP:
-                persisting(persisted, moment)
-    for own in range(5):
-        for new in range(5):
-            lowering(own, new)
-    for build in (0, 10, TOP):
-        for stored in (0, 9, 10, 11, TOP):
-            for fabric in (0, 1, 255):
-                loading(build, stored, fabric)
+    for ask in (setting_rows, persisting_rows, loading_rows, source_rows, broken_rows):
+        ask()
 
 
 # ## Histories: a store of its own
@@ -512,7 +628,8 @@ def list_rows():
 
 
 def oracle_rows():
-    """Histories with the answers of the unchanged Rust: `differ --list tests/oracle_rows.txt --rows 200 --most 60` of oracle/ wrote them."""
+    """Histories and scripts on a clock with the answers of the unchanged Rust, as `differ` of oracle/ wrote them:
+    `differ --list tests/oracle_rows.txt --rows 200 --most 60 --scripts 100`."""
     for line in pathlib.Path("tests/oracle_rows.txt").read_text().splitlines():
         row, answer = line.split(": ", 1)
         letter, given = row.split(" ", 1)

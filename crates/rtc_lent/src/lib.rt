@@ -1,8 +1,8 @@
-// The clock as one record that the caller lends, and that each call reads or changes in its place.
+// The clock as one record that the caller lends, and that each call changes in its place. Who holds a clock reads it by value.
 ghost use mathlib.Core.Path.{_≡_};
 ghost use Rattle.model.specs.Maybe.{optionU64};
-ghost use Rattle.model.specs.Clock.{resetPersist, load, reading, granularityRead, sourceRead, setUtcTime, setUtcTimePersist, setTrustedTimeSourcePersist};
-ghost use Rattle.rtc.specs.Meaning.{clockOf, optionSource, readingOf, resetOf, loadedOf, utcTimeSetOf, utcTimePersistedOf, sourcePersistedOf};
+ghost use Rattle.model.specs.Clock.{resetPersist, load, setUtcTime, setUtcTimePersist, setTrustedTimeSourcePersist};
+ghost use Rattle.rtc.specs.Meaning.{clockOf, optionSource, resetOf, loadedOf, utcTimeSetOf, utcTimePersistedOf, sourcePersistedOf};
 use model::MaybeU64;
 use model::TimeGranularity;
 use model::TimeSource;
@@ -10,7 +10,6 @@ use rtc::LoadAnswer;
 use rtc::MaybeSource;
 use rtc::Rtc;
 use rtc::SourceStored;
-use rtc::UtcTime;
 
 // What a setting answers: whether something changed, and whether it was kept and is to be reported.
 pub struct UtcTimeAnswer {
@@ -55,34 +54,6 @@ pub fn load_persist(rtc: &mut Rtc, build: u64, stored: MaybeU64, source: MaybeSo
     let done = was.load_persist(build, stored, source);
     *rtc = done.rtc;
     done.answer
-}
-
-// The current UTC time at a tick, or the last known one.
-pub fn utc_time(rtc: &Rtc, tick: u64) -> UtcTime
-    ensures { λ r. ⌜ readingOf r ≡ reading (clockOf (now (rtc .entry))) tick ⌝ }
-{
-    (*rtc).utc_time(tick)
-}
-
-// The granularity of the current UTC time, and none until the clock is set.
-pub fn utc_time_granularity(rtc: &Rtc) -> TimeGranularity
-    ensures { λ r. ⌜ r ≡ granularityRead (clockOf (now (rtc .entry))) ⌝ }
-{
-    (*rtc).utc_time_granularity()
-}
-
-// The source of the current UTC time, and none until the clock is set.
-pub fn utc_time_source(rtc: &Rtc) -> TimeSource
-    ensures { λ r. ⌜ r ≡ sourceRead (clockOf (now (rtc .entry))) ⌝ }
-{
-    (*rtc).utc_time_source()
-}
-
-// The trusted time source, or that there is none.
-pub fn trusted_time_source(rtc: &Rtc) -> MaybeSource
-    ensures { λ r. ⌜ optionSource r ≡ clockOf (now (rtc .entry)) .trusted ⌝ }
-{
-    (*rtc).trusted_time_source()
 }
 
 // Sets the UTC time and anchors it at the tick, where something changes or the clock is not set.

@@ -1,6 +1,7 @@
 // What a device answers to a script: a new image with a list store of limits 2 and 2, and entry points called one after the other.
 use crate::RECORD_MAX;
 use crate::listing;
+use crate::text;
 use controller::attributes::timesync_local_time;
 use controller::clock::timesync_new;
 use controller::clock::timesync_set_trusted_time_source;
@@ -8,8 +9,8 @@ use controller::clock::timesync_set_utc_time;
 use controller::lists::timesync_load_lists;
 use controller::lists::timesync_set_dst_offset;
 use controller::lists::timesync_set_time_zone;
-use libc::STDOUT_FILENO;
 use word::or_zero::put_u8;
+use word::or_zero::u8_at;
 use word::or_zero::u32_at;
 use word::or_zero::u64_at;
 
@@ -41,8 +42,8 @@ const HEAD_SIZE: usize = 5;
 
 // Writes the number of what a call returned, which is its lowest byte: 0 where the call was taken.
 pub(crate) fn told(returned: u64) {
-    io::write_all(STDOUT_FILENO, b" ");
-    io::print_decimal(STDOUT_FILENO, returned % 256);
+    text::words(b" ");
+    text::decimal(returned % 256);
 }
 
 // SetUTCTime: moment, granularity, tick.
@@ -64,10 +65,10 @@ fn local(image: &[u8], s: &[u8]) -> usize {
     if r != 0 {
         told(r);
     } else if there == 0 {
-        io::write_all(STDOUT_FILENO, b" null");
+        text::words(b" null");
     } else {
-        io::write_all(STDOUT_FILENO, b" ");
-        io::print_decimal(STDOUT_FILENO, utc);
+        text::words(b" ");
+        text::decimal(utc);
     }
     NUMBER_SIZE
 }
@@ -110,47 +111,36 @@ fn without_store(image: &mut [u8]) -> usize {
     LETTER_SIZE
 }
 
-// A step that reads the lists: how many entries are listed, or the one at an index.
-fn listed(image: &[u8], s: &[u8], letter: u8) -> usize {
-    if letter == b'C' {
-        listing::counts(image);
-        return LETTER_SIZE;
-    }
-    let index = u64_at(s, ARGUMENT) as usize;
-    if letter == b'A' {
-        listing::zone(image, index);
-    } else {
-        listing::window(image, index);
-    }
+// How many entries are listed.
+fn counts(image: &[u8]) -> usize {
+    listing::counts(image);
+    LETTER_SIZE
+}
+
+// The listed zone at an index.
+fn zone(image: &[u8], s: &[u8]) -> usize {
+    listing::zone(image, u64_at(s, ARGUMENT) as usize);
     NUMBER_SIZE
 }
 
-// The step at the front, by its letter, where it is none of the clock's.
-fn list_step(image: &mut [u8], s: &[u8], letter: u8) -> usize {
-    if letter == b'N' {
-        return without_store(image);
-    }
-    if letter < b'D' {
-        return listed(image, s, letter);
-    }
-    list(image, s, letter)
+// The listed window at an index.
+fn window(image: &[u8], s: &[u8]) -> usize {
+    listing::window(image, u64_at(s, ARGUMENT) as usize);
+    NUMBER_SIZE
 }
 
 // The step at the front, by its letter; answers how many bytes it took, and 0 where it cannot be read.
 fn step(image: &mut [u8], s: &[u8]) -> usize {
-    if s.len() < 1 {
-        return 0;
+    match u8_at(s, 0) {
+        b'U' => utc_time(image, s),
+        b'L' => local(image, s),
+        b'T' => trusted(image, u8_at(s, ARGUMENT)),
+        b'N' => without_store(image),
+        b'C' => counts(image),
+        b'A' => zone(image, s),
+        b'B' => window(image, s),
+        letter => list(image, s, letter),
     }
-    if s[0] == b'U' {
-        return utc_time(image, s);
-    }
-    if s[0] == b'L' {
-        return local(image, s);
-    }
-    if s[0] == b'T' && ARGUMENT < s.len() {
-        return trusted(image, s[ARGUMENT]);
-    }
-    list_step(image, s, s[0])
 }
 
 // Runs the steps of a script on an image, and writes what each answers; it ends where no step can be read.

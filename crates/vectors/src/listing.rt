@@ -6,7 +6,6 @@ use controller::attributes::timesync_dst_offset_count;
 use controller::attributes::timesync_time_zone_count;
 use controller::entries::timesync_dst_offset;
 use controller::entries::timesync_time_zone;
-use libc::STDOUT_FILENO;
 
 // Writes a count that was read, or the refusal's number.
 fn count(returned: u64, n: u64) {
@@ -14,8 +13,8 @@ fn count(returned: u64, n: u64) {
         told(returned);
         return;
     }
-    io::write_all(STDOUT_FILENO, b" ");
-    io::print_decimal(STDOUT_FILENO, n);
+    text::words(b" ");
+    text::decimal(n);
 }
 
 // How many zones are listed, and how many windows.
@@ -29,17 +28,17 @@ pub(crate) fn counts(image: &[u8]) {
 
 // Writes an offset and a start.
 fn head(offset: i32, start: u64) {
-    io::write_all(STDOUT_FILENO, b"(");
+    text::words(b"(");
     text::signed(offset);
-    io::write_all(STDOUT_FILENO, b" from ");
-    io::print_decimal(STDOUT_FILENO, start);
+    text::words(b" from ");
+    text::decimal(start);
 }
 
 // Writes the first n bytes of a name.
 fn named(name: &[u8], n: usize) {
-    io::write_all(STDOUT_FILENO, b" named ");
+    text::words(b" named ");
     if n <= name.len() {
-        io::write_all(STDOUT_FILENO, &name[..n]);
+        text::words(&name[..n]);
     }
 }
 
@@ -63,7 +62,7 @@ pub(crate) fn zone(image: &[u8], index: usize) {
     if is_named != 0 {
         named(&name, n as usize);
     }
-    io::write_all(STDOUT_FILENO, b")");
+    text::words(b")");
 }
 
 // The listed window at an index.
@@ -75,8 +74,8 @@ pub(crate) fn window(image: &[u8], index: usize) {
     told(timesync_dst_offset(image, index, &mut offset, &mut start, &mut closed, &mut end));
     head(offset, start);
     if closed != 0 {
-        io::write_all(STDOUT_FILENO, b" to ");
-        io::print_decimal(STDOUT_FILENO, end);
+        text::words(b" to ");
+        text::decimal(end);
     }
-    io::write_all(STDOUT_FILENO, b")");
+    text::words(b")");
 }

@@ -2,7 +2,6 @@
 use crate::NAME_MAX;
 use crate::RECORD_MAX;
 use crate::text;
-use libc::STDOUT_FILENO;
 use word::or_zero::u64_at;
 
 // The most moments of a walk, and how many bytes a moment has.
@@ -15,15 +14,15 @@ const MOMENTS_MAX: usize = MOST_MOMENTS * MOMENT_SIZE;
 
 // Writes the number of steps and the moments of a walk.
 fn walked(moments: &[u8], steps: u64) {
-    io::print_decimal(STDOUT_FILENO, steps);
-    io::write_all(STDOUT_FILENO, b" steps:");
+    text::decimal(steps);
+    text::words(b" steps:");
     let mut i: usize = 0;
     while i < MOST_MOMENTS {
         if steps < i as u64 {
             return;
         }
-        io::write_all(STDOUT_FILENO, b" ");
-        io::print_decimal(STDOUT_FILENO, u64_at(moments, MOMENT_SIZE * i));
+        text::words(b" ");
+        text::decimal(u64_at(moments, MOMENT_SIZE * i));
         i += 1;
     }
 }
@@ -72,8 +71,8 @@ pub(crate) fn replayed(row: &[u8], history: &[u8]) {
     let mut steps: u64 = 0;
     let answer = run(row, history, &mut moments, &mut steps);
     if answer != 0 {
-        io::write_all(STDOUT_FILENO, b"refused ");
-        io::print_decimal(STDOUT_FILENO, answer);
+        text::words(b"refused ");
+        text::decimal(answer);
         return;
     }
     walked(&moments, steps);

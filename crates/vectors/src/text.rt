@@ -4,6 +4,16 @@ ghost use lib.ListN.{length};
 ghost use Rattle.io.specs.Counts.{Counts};
 use libc::STDOUT_FILENO;
 
+// Writes some text.
+pub(crate) fn words(s: &[u8]) {
+    io::write_all(STDOUT_FILENO, s);
+}
+
+// Writes a number.
+pub(crate) fn decimal(n: u64) {
+    io::print_decimal(STDOUT_FILENO, n);
+}
+
 // Where the line that starts at `at` ends.
 pub(crate) fn line_end(s: &[u8], at: usize) -> usize
     requires { ⌜ at ≤ length (now s) ⌝ }
@@ -17,6 +27,33 @@ pub(crate) fn line_end(s: &[u8], at: usize) -> usize
         i += 1;
     }
     i
+}
+
+// How many bytes at the front are whole lines, with their line ends.
+pub(crate) fn whole_lines(s: &[u8]) -> usize
+    ensures { λ r. ⌜ r ≤ length (now (s .entry)) ⌝ }
+{
+    let mut i = s.len();
+    while 0 < i {
+        if s[i - 1] == b'\n' {
+            return i;
+        }
+        i -= 1;
+    }
+    0
+}
+
+// Moves the bytes from `at` on to the front.
+pub(crate) fn to_front(s: &mut [u8], at: usize) {
+    if s.len() < at {
+        return;
+    }
+    let n = s.len() - at;
+    let mut i: usize = 0;
+    while i < n {
+        s[i] = s[at + i];
+        i += 1;
+    }
 }
 
 // The value of a hexadecimal digit, and 0 for any other byte.
@@ -77,14 +114,6 @@ fn with_digit(v: u64, b: u8) -> u64 {
     0xffff_ffff_ffff_ffff
 }
 
-// The same where the digit belongs to the number, else the number as it was.
-fn with_own(v: u64, b: u8, own: bool) -> u64 {
-    if own && b != b' ' {
-        return with_digit(v, b);
-    }
-    v
-}
-
 // Where word k of a row starts; its end where the row has no such word.
 pub(crate) fn word_start(s: &[u8], k: usize) -> usize
     ensures { λ r. ⌜ r ≤ length (now (s .entry)) ⌝ }
@@ -103,12 +132,13 @@ pub(crate) fn word_start(s: &[u8], k: usize) -> usize
 
 // Word k of a row as a decimal number; the first word is 0.
 pub(crate) fn number(s: &[u8], k: usize) -> u64 {
-    let mut word: usize = 0;
     let mut v: u64 = 0;
-    let mut i: usize = 0;
+    let mut i = word_start(s, k);
     while i < s.len() {
-        word = word_after(word, s[i]);
-        v = with_own(v, s[i], word == k);
+        if s[i] == b' ' {
+            return v;
+        }
+        v = with_digit(v, s[i]);
         i += 1;
     }
     v
@@ -120,9 +150,9 @@ pub(crate) fn signed(z: i32) {
     word::put_i32(&mut b, 0, z);
     let n = word::or_zero::u32_at(&b, 0);
     if n < 0x8000_0000 {
-        io::print_decimal(STDOUT_FILENO, n as u64);
+        decimal(n as u64);
         return;
     }
-    io::write_all(STDOUT_FILENO, b"-");
-    io::print_decimal(STDOUT_FILENO, (0xffff_ffff - n) as u64 + 1);
+    words(b"-");
+    decimal((0xffff_ffff - n) as u64 + 1);
 }

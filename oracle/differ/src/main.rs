@@ -2,7 +2,8 @@
 //!
 //!     differ [--answers N] [--seed SEED]            documented differences, every short pair of lists, then random sequences
 //!     differ SEED STEPS [SEQUENCES [FIRST]]         these sequences only
-//!     differ --list FILE [--rows N] [--most BYTES]  histories with the oracle's answers
+//!     differ --list FILE [--rows N] [--most BYTES] [--scripts N]
+//!                                                   histories and scripts on a clock with the oracle's answers
 //!
 //! Status 1 on a difference, which is made smaller and shown; 2 on arguments that cannot be read.
 #![forbid(unsafe_code)]
@@ -33,9 +34,13 @@ const SEED: u64 = 1;
 const ROWS: u64 = 300;
 /// How many bytes a history of a row has at most
 const MOST: u64 = 1000;
+const SCRIPTS: u64 = 100;
 
 fn usage() -> ! {
-    eprintln!("differ [--answers N] [--seed SEED] | SEED STEPS [SEQUENCES [FIRST]] | --list FILE [--rows N] [--most BYTES] [--seed SEED]");
+    eprintln!(
+        "differ [--answers N] [--seed SEED] | SEED STEPS [SEQUENCES [FIRST]] | \
+         --list FILE [--rows N] [--most BYTES] [--scripts N] [--seed SEED]"
+    );
     exit(2)
 }
 
@@ -63,12 +68,13 @@ struct Asked {
     seed: u64,
     rows: u64,
     most: u64,
+    scripts: u64,
     file: Option<String>,
     plain: Vec<u64>,
 }
 
 fn asked() -> Asked {
-    let mut asked = Asked { answers: ANSWERS, seed: SEED, rows: ROWS, most: MOST, file: None, plain: Vec::new() };
+    let mut asked = Asked { answers: ANSWERS, seed: SEED, rows: ROWS, most: MOST, scripts: SCRIPTS, file: None, plain: Vec::new() };
     let mut words = std::env::args().skip(1);
     while let Some(word) = words.next() {
         match word.as_str() {
@@ -76,6 +82,7 @@ fn asked() -> Asked {
             "--seed" => asked.seed = number(words.next()),
             "--rows" => asked.rows = number(words.next()),
             "--most" => asked.most = number(words.next()),
+            "--scripts" => asked.scripts = number(words.next()),
             "--list" => asked.file = Some(words.next().unwrap_or_else(|| usage())),
             _ => asked.plain.push(number(Some(word))),
         }
@@ -108,9 +115,10 @@ fn main() {
         println!("the image has another size");
         exit(1);
     }
-    let Asked { mut answers, mut seed, rows, most, file, plain } = asked();
+    let Asked { mut answers, mut seed, rows, most, scripts, file, plain } = asked();
     if let Some(file) = file {
-        let rows = list::write(&file, seed, rows, most as usize).unwrap_or_else(|why| ended(why));
+        let asked = list::Asked { seed, rows, most: most as usize, scripts };
+        let rows = list::write(&file, &asked).unwrap_or_else(|why| ended(why));
         println!("{rows} rows in {file} (seed {seed})");
         return;
     }

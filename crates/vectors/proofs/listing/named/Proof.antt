@@ -4,7 +4,7 @@ use lib.Seq.{length-take-le}
 use Rattle.vectors.proofs.listing.named.Statement.{statement}
 use Rattle.vectors.proofs.listing.named.Tie as tie
 
-front-counted : tie.Need-slice-aggregate-write-all-2
+front-counted : tie.Need-slice-aggregate-words-2
 front-counted c = let a = c .before .before .before .before .before .args in sym (length-take-le (a .n) (a .name .now) (search needs))
 
 pub named-spec : {M : Type 1} → statement M
