@@ -15,8 +15,9 @@
 //! store, out of an archive of its own; firmware does without it.
 //!
 //! At boot make the controller, load the clock ([`Rtc::load_persist`]) and the lists ([`TimeZoneStore::load`]) with or without what flash
-//! holds of them, and then make the first look ([`TimeSyncHandler::look`]) and the first attempt ([`TimeSyncClient::attempt`]). After a load
-//! that was refused with BadRecord go on with the new clock, or with empty lists, and tell the administrator.
+//! holds of them, and then make the first look ([`TimeSyncHandler::look`]) and the first attempt ([`TimeSyncClient::attempt`]). A load
+//! that is refused with BadRecord changes nothing: load the clock again without its trusted time source, so that its moment is not lost, go on
+//! with empty lists, and tell the administrator.
 //!
 //! ```no_run
 //! use timesync::{Controller, ListStore};

@@ -1,4 +1,4 @@
--- What a returned number tells: the refusal and the kinds of the effects come back from it. The proofs stand in proofs/CodeLaws.antt.
+-- What a returned number tells: the refusal and the kinds of the effects come back from it. The proofs stand in proofs/CodeLaws.antt but for the last.
 use mathlib.Core.Bool.{false}
 use mathlib.Core.List.{List, [], _∷_, map}
 use mathlib.Core.Option.{Option, none, some}
@@ -87,7 +87,7 @@ pub record GivesBack {A : Type 0} (a : Answer A) (es : List Effect) : Type 0 whe
 abbrev pub ReturnedGivesBack : Type 1
 ReturnedGivesBack = (A : Type 0) (a : Answer A) (es : List Effect) → length es ≤ 7 → GivesBack a es
 
--- ## No call asks for more than four effects: `few-effects`
+-- ## No call asks for more than four effects: `few-effects` in proofs/FewEffects.antt
 
 pub record FewEffects : Type 0 where
   pub setUTCTime : (d : Device) (utc granularity : ℕ) (source : Option ℕ) (tick : ℕ) → length (H.setUTCTime d utc granularity source tick .effects) ≤ 4
