@@ -9,12 +9,11 @@ use lib.ListN.{length, getD, getElem?}
 use Rattle.model.specs.declared.Refusal.{Refusal}
 use Rattle.model.specs.declared.Refusal.the-variants as R
 use Rattle.model.specs.Numbers.{refusalNumber, refusalOf}
-use Rattle.model.specs.Basics.{keep, first}
 use Rattle.model.specs.Bytes.{bytes, number}
 use Rattle.model.specs.RoundTrip.{AreBytes}
 use Rattle.model.specs.Answers.{Answer, refused, answers, numberOf, Attribute, UTCTime, Granularity, TrustedTimeSource, TimeZone, DSTOffset, Event, DSTTableEmpty, DSTStatus, TimeZoneStatus, TimeFailure, MissingTrustedTimeSource, Effect, report, emit, wakeTimer, wakeClient, storeRecord, removeRecord, storeMoment, removeMoment, storeSource, removeSource}
 use Rattle.model.specs.Codes.{effectCode, returned}
-use Rattle.model.specs.CodeLaws.{kindOf, kindNamed, CodesTell, refusalIn, codeIn, refusalOfAnswer, ReturnedGivesBack}
+use Rattle.model.specs.CodeLaws.{kindOf, withCode, kindNamed, CodesTell, refusalIn, codeIn, refusalOfAnswer, ReturnedGivesBack}
 use Rattle.model.proofs.NumbersBack.{numbers-back}
 
 -- ## One code
@@ -26,7 +25,7 @@ record Tells (e : Effect) : Type 0 where
   not0 : 0 < effectCode e
 
 tells : (e : Effect) → Tells e
-unfolding kindNamed keep first
+unfolding withCode
 tells (report UTCTime) = record { named = refl; fits = lit< tt; not0 = lit< tt }
 tells (report Granularity) = record { named = refl; fits = lit< tt; not0 = lit< tt }
 tells (report Attribute.TimeSource) = record { named = refl; fits = lit< tt; not0 = lit< tt }
@@ -106,7 +105,7 @@ codes-long [] = refl
 codes-long (e ∷ es) = ap suc (codes-long es)
 
 kinds-back : (es : List Effect) (i : ℕ) → kindNamed (getD (map effectCode es) i 0) ≡ getElem? (map kindOf es) i
-unfolding kindNamed keep first
+unfolding withCode
 kinds-back [] i = refl
 kinds-back (e ∷ es) zero = tells e .named
 kinds-back (e ∷ es) (suc i) = kinds-back es i

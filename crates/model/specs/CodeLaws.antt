@@ -1,5 +1,5 @@
 -- What a returned number tells: the refusal and the kinds of the effects come back from it. The proofs stand in proofs/CodeLaws.antt but for the last.
-use mathlib.Core.Bool.{false}
+use mathlib.Core.Bool.{false, cond}
 use mathlib.Core.List.{List, [], _∷_, map}
 use mathlib.Core.Option.{Option, none, some}
 use mathlib.Core.Path.{_≡_}
@@ -11,7 +11,6 @@ use Rattle.model.specs.declared.Refusal.{Refusal}
 use Rattle.model.specs.declared.TimeGranularity.{TimeGranularity}
 use Rattle.model.specs.declared.TimeSource.{TimeSource}
 use Rattle.model.specs.Numbers.{refusalOf}
-use Rattle.model.specs.Basics.{keep, first}
 use Rattle.model.specs.Bytes.{bytes}
 use Rattle.model.specs.Answers.{Answer, refused, answers, numberOf, Attribute, UTCTime, Granularity, TrustedTimeSource, TimeZone, DSTOffset, Event, DSTTableEmpty, DSTStatus, TimeZoneStatus, TimeFailure, MissingTrustedTimeSource, TrustedSource, Effect, report, emit, wakeTimer, wakeClient, storeRecord, removeRecord, storeMoment, removeMoment, storeSource, removeSource}
 use Rattle.model.specs.Codes.{effectCode, returned}
@@ -51,9 +50,14 @@ kinds =
     ∷ wakeTimer ∷ wakeClient ∷ storeRecord ∷ removeRecord ∷ storeMoment 0 ∷ removeMoment
     ∷ storeSource (record { fabric = 0; node = 0; endpoint = 0 }) ∷ removeSource ∷ []
 
+-- the first of some kinds whose code a number is
+unfoldable pub withCode : ℕ → List Effect → Option Effect
+withCode n [] = none
+withCode n (k ∷ ks) = cond (eqb (effectCode k) n) (some k) (withCode n ks)
+
 -- the kind whose code a number is; none for a number that is no code
-unfoldable pub kindNamed : ℕ → Option Effect
-kindNamed n = first (keep (λ k. eqb (effectCode k) n) kinds)
+abbrev pub kindNamed : ℕ → Option Effect
+kindNamed n = withCode n kinds
 
 -- ## Effect codes are different, fit a byte and are never 0: `codes-tell`
 
