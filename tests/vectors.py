@@ -601,7 +601,7 @@ def script_rows():
     device = Device().local(0).utc(now, 3, 0).local(0).zones((2 * HOUR, 0)).local(0).windows((HOUR, 0)).local(0)
     device.windows((HOUR, later)).local(0).windows((HOUR, later, later + 1)).local(HOUR * 1_000_000 - 1).local(HOUR * 1_000_000)
     device.local(HOUR * 1_000_000 + 1).zones((0, 0), (-HOUR, later)).windows((0, 0)).local(0).local(HOUR * 1_000_000).row()
-    # steps of TestTimeSynchronization, as they are publicly known: a granularity that is none, and a setting that is read back
+    # steps of TestTimeSynchronization, as they are publicly known: granularity 5, and a setting that is read back
     Device().utc(now, 5, 0).windows((0, 0)).local(0).utc(now, 2, 0).local(0).utc(now, 2, 9).local(9).utc(now + 1, 4, 9).local(10).row()
     # held at both ends
     Device().utc(0, 3, 0).zones((-12 * HOUR, 0)).windows((0, 0)).local(0).local(12 * HOUR * 1_000_000 + 1).row()

@@ -1,6 +1,6 @@
 #!/usr/bin/env bash
-# Writes the proofs that are not written by hand: those of the thin functions over a lent record, from tools/lent/*.json, and those over
-# the reader of windows, which are those over the reader of zones with the names replaced. With --check it writes none, and fails where
+# Writes the proofs that are not written by hand: those of the thin functions over a lent record, from tools/lent/*.json, and those of
+# readers of windows, which are those of the readers of zones with the names replaced. With --check it writes none, and fails where
 # one differs.
 cd "$(dirname "$0")/.." || exit 1
 case "${1:-}" in
@@ -18,10 +18,11 @@ esac
 for input in tools/lent/*.json; do
     python3 tools/lent.py "$input" "$root" || exit 1
 done
-for zones in section/time_zones_taken section/take_time_zones read/time_zones; do
-    made=$root/crates/record/proofs/${zones/time_zones/dst_offsets}
-    mkdir -p "$made" && sed -e 's/time_zones/dst_offsets/g' -e 's/time-zones/dst-offsets/g' -e 's/zonesTaken/windowsTaken/g' \
-        -e 's/zonesWhole/windowsWhole/g' -e 's/zones-taken/windows-taken/g' "crates/record/proofs/$zones/Proof.antt" >"$made/Proof.antt" || exit 1
+for zones in section/time_zones_taken section/take_time_zones read/time_zones read/time_zone; do
+    made=$root/crates/record/proofs/${zones/time_zone/dst_offset}
+    mkdir -p "$made" && sed -e 's/time_zone/dst_offset/g' -e 's/time-zone/dst-offset/g' -e 's/TimeZoneRead/DSTOffsetRead/g' \
+        -e 's/zones\(Taken\|Whole\|-taken\)/windows\1/g' -e 's/zone\(At\|From\)/window\1/g' -e 's/\(next\|section\)Zone/\1Window/g' \
+        "crates/record/proofs/$zones/Proof.antt" >"$made/Proof.antt" || exit 1
 done
 [ "$root" = . ] && exit 0
 

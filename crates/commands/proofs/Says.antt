@@ -1,8 +1,8 @@
 -- What a call on the clock returns and leaves.
-use mathlib.Core.Bool.{Bool, true, false, not, _&&_, cond}
+use mathlib.Core.Bool.{Bool, true, false, cond}
 use mathlib.Core.List.{List, [], _++_}
 use mathlib.Core.Option.{Option, none, some}
-use mathlib.Core.Path.{_≡_, refl, sym, subst}
+use mathlib.Core.Path.{_≡_, refl, subst}
 use Prim.Native.Nat.{ℕ, zero, suc}
 use native.Mathlib.Omega.{arith}
 use lib.Dec.{eqb, leb}
@@ -14,7 +14,7 @@ use Rattle.model.specs.declared.TimeSource.{TimeSource}
 use Rattle.model.specs.Numbers.{refusalNumber, granularityOf}
 use Rattle.model.specs.Basics.{isSome}
 use Rattle.model.specs.Bytes.{number}
-use Rattle.model.specs.Answers.{Result, unchanged, refused}
+use Rattle.model.specs.Answers.{Result, unchanged}
 use Rattle.model.specs.Codes.{returned}
 use Rattle.model.specs.Clock.{Clock, Persisted}
 use Rattle.model.specs.Handler as H
@@ -28,7 +28,8 @@ use Rattle.image.specs.Layout.{isImage}
 use Rattle.image.specs.Parts.{deviceIn, withClock, newBytes, newImage}
 use Rattle.image.specs.Asked.{askedOf}
 use Rattle.model.specs.Output.{leaves, truth}
-use Rattle.table.proofs.Made.{limits}
+use Rattle.model.proofs.Facts.{and-both}
+use Rattle.model.proofs.Stored.{limits}
 use Rattle.commands.specs.Calls.{returnedBy, clockLeft, makes, setBy}
 use Rattle.commands.specs.Taken.{sourceTaken}
 
@@ -142,16 +143,12 @@ module _ (s : List ℕ) (d : Device) (l : Loaded) (q : Result Clock (Unit {0})) 
 
 -- ## New
 
-first-true : (a b : Bool) → a && b ≡ true → a ≡ true
-first-true true b h = refl
-first-true false b h = h
-
 pub new-limits : (s : List ℕ) (there : Bool) (z w build period : ℕ) → makes s there z w ≡ true
     → newImage s there (cond (leb z 16) z 0) (cond (leb w 16) w 0) build period ≡ newImage s there z w build period
 unfolding newImage newBytes
 new-limits s false z w build period e = refl
 new-limits s true z w build period e =
-    let k = limits (record { zoneLimit = z; windowLimit = w }) (first-true _ _ e) in
+    let k = limits (record { zoneLimit = z; windowLimit = w }) (and-both _ _ e .0) in
     let a : leb z 16 ≡ true = le-leb z 16 (omega (arith, k .zones)) in
     let b : leb w 16 ≡ true = le-leb w 16 (k .windows) in
     rw (a, b)

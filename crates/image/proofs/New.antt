@@ -5,8 +5,6 @@ use mathlib.Core.Option.{none}
 use mathlib.Core.Path.{_≡_, refl, sym, ap, _∙_}
 use Prim.Native.Nat.{ℕ, _≤_, min}
 use native.Mathlib.Omega.{arith}
-use borrow.Author.Tests.{leb-true}
-use lib.Dec.{leb}
 use lib.ListN.{take, drop}
 use lib.Seq.{take-all}
 use Rattle.model.specs.Bytes.{bytes, number}
@@ -15,6 +13,7 @@ use Rattle.model.specs.Lists.{empty}
 use Rattle.model.specs.RoundTrip.{IsMoment}
 use Rattle.model.specs.Rules.{Rules, allowed}
 use Rattle.model.specs.Retries.{newClient}
+use Rattle.model.proofs.Stored.{limits as in-range}
 use Rattle.model.proofs.Words.{length-bytes, number-bytes}
 use Rattle.word.specs.Place.{wordAt}
 use Rattle.table.specs.Layout.{generationPlace, entriesFrom, zonesIn, windowsIn, storeIn}
@@ -25,7 +24,7 @@ use Rattle.image.specs.Laws.{ClockFits, ClientFits, NewIsFresh, limitsAl
 use Rattle.word.proofs.Frame.{length-placed}
 use Rattle.image.proofs.Written.{length-new, length-table, length-clock, length-client, length-timer}
 use Rattle.image.proofs.Holds.{Holds, placed-holds, holds-byte, holds-word, holds-left, holds-right}
-use Rattle.image.proofs.Outside.{both, is-image}
+use Rattle.image.proofs.Outside.{is-image}
 use Rattle.image.proofs.Back.{bit-back, clock-reads, timer-reads, client-reads}
 
 -- ## A new table
@@ -44,12 +43,9 @@ module _ (r : Rules) where
 
 -- limits that are allowed, or that stand for no list store, are in range
 limits-low : (there : Bool) (zones windows : ℕ) → limitsAllowed there zones windows → (limitOf there zones ≤ 8) × (limitOf there windows ≤ 16)
-unfolding allowed
 limits-low true zones windows h =
-    let p = both (leb 1 zones) _ (h refl) in
-    let q = both (leb zones 8) _ (p .1) in
-    let r = both (leb 1 windows) (leb windows 16) (q .1) in
-    (leb-true zones 8 (q .0), leb-true windows 16 (r .1))
+    let k = in-range (record { zoneLimit = zones; windowLimit = windows }) (h refl) in
+    (k .zones, k .windows)
 limits-low false zones windows h = (omega arith, omega arith)
 
 -- ## Where the parts of a new image stand

@@ -1,12 +1,13 @@
 -- The parts of an image that lie outside the bytes that are written.
-use mathlib.Core.Bool.{Bool, true, false, _&&_}
+use mathlib.Core.Bool.{true}
 use mathlib.Core.List.{List}
-use mathlib.Core.Path.{_≡_, refl}
+use mathlib.Core.Path.{_≡_}
 use Prim.Native.Nat.{ℕ, _+_, _≤_, _<_}
 use native.Mathlib.Omega.{arith}
 use borrow.Author.Tests.{le-leb, leb-true, eqb-true}
 use lib.Dec.{leb}
 use lib.ListN.{length, take, drop}
+use Rattle.model.proofs.Facts.{and-both}
 use Rattle.word.specs.Place.{placed, byteAt, wordAt}
 use Rattle.table.specs.Layout.{tableSize}
 use Rattle.image.specs.Layout.{imageSize, magic, magicPlace, storePlace, clockPlace, tablePlace, isImage, tableIn}
@@ -19,14 +20,10 @@ pub record Image (s : List ℕ) : Type 0 where
   pub size : imageSize ≤ length s
   pub marked : wordAt 4 s magicPlace ≡ magic
 
-pub both : (a b : Bool) → a && b ≡ true → (a ≡ true) × (b ≡ true)
-both true b h = (refl, h)
-both false b h = (h, cc)
-
 pub image-is : (s : List ℕ) → isImage s ≡ true → Image s
 unfolding isImage
 image-is s h =
-    let p = both (leb imageSize (length s)) _ h in
+    let p = and-both (leb imageSize (length s)) _ h in
     record { size = leb-true imageSize (length s) (p .0); marked = eqb-true (wordAt 4 s magicPlace) magic (p .1) }
 
 pub is-image : (s : List ℕ) → Image s → isImage s ≡ true

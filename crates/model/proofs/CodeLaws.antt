@@ -1,20 +1,20 @@
 -- The codes of effects are different, and a returned number gives back what it was made of.
 use mathlib.Core.List.{List, [], _∷_, map}
-use mathlib.Core.Option.{none, some}
-use mathlib.Core.Path.{_≡_, refl, ap, sym, _∙_}
-use Prim.Native.Nat.{ℕ, zero, suc, _+_, _*_, _/_, _%_, _^_, _≤_, _<_}
+use mathlib.Core.Option.{some}
+use mathlib.Core.Path.{_≡_, refl, ap, _∙_}
+use Prim.Native.Nat.{ℕ, zero, suc, _+_, _*_, _/_, _%_, _≤_, _<_}
 use native.Mathlib.Omega.{arith}
 use lib.Dec.{lit<}
 use lib.ListN.{length, getD, getElem?}
-use Rattle.model.specs.declared.Refusal.{Refusal}
 use Rattle.model.specs.declared.Refusal.the-variants as R
-use Rattle.model.specs.Numbers.{refusalNumber, refusalOf}
+use Rattle.model.specs.Numbers.{refusalOf}
 use Rattle.model.specs.Bytes.{bytes, number}
 use Rattle.model.specs.RoundTrip.{AreBytes}
-use Rattle.model.specs.Answers.{Answer, refused, answers, numberOf, Attribute, UTCTime, Granularity, TrustedTimeSource, TimeZone, DSTOffset, Event, DSTTableEmpty, DSTStatus, TimeZoneStatus, TimeFailure, MissingTrustedTimeSource, Effect, report, emit, wakeTimer, wakeClient, storeRecord, removeRecord, storeMoment, removeMoment, storeSource, removeSource}
+use Rattle.model.specs.Answers.{Answer, refused, answers, numberOf, Attribute, UTCTime, Granularity, TrustedTimeSource, TimeZone, DSTOffset, DSTTableEmpty, DSTStatus, TimeZoneStatus, TimeFailure, MissingTrustedTimeSource, Effect, report, emit, wakeTimer, wakeClient, storeRecord, removeRecord, storeMoment, removeMoment, storeSource, removeSource}
 use Rattle.model.specs.Codes.{effectCode, returned}
 use Rattle.model.specs.CodeLaws.{kindOf, withCode, kindNamed, CodesTell, refusalIn, codeIn, refusalOfAnswer, ReturnedGivesBack}
 use Rattle.model.proofs.NumbersBack.{numbers-back}
+use Rattle.model.proofs.Words.{number-below}
 
 -- ## One code
 
@@ -58,13 +58,7 @@ codes-tell = record { different = different; fit = λ e. tells e .fits; never0 =
 
 -- ## Bytes of a number
 
-number-fits : (w : ℕ) (xs : List ℕ) → AreBytes xs → length xs ≤ w → number xs < 256 ^ w
-unfolding number
-number-fits zero [] h n = lit< tt
-number-fits zero (x ∷ xs) h n = absurd (omega arith)
-number-fits (suc w) [] h n = omega (arith, number-fits w [] tt (omega arith))
-number-fits (suc w) (x ∷ xs) h n = omega (arith, h .0, number-fits w xs (h .1) (omega arith))
-
+-- a byte of the number that bytes spell is the one that stands there
 byte-back : (w : ℕ) (xs : List ℕ) → AreBytes xs → length xs ≤ w → (i : ℕ) → getD (bytes w (number xs)) i 0 ≡ getD xs i 0
 unfolding bytes number
 byte-back zero [] h n i = refl
@@ -131,4 +125,4 @@ module _ {A : Type 0} (a : Answer A) (es : List Effect) (few : length es ≤ 7) 
 pub returned-gives-back : ReturnedGivesBack
 unfolding returned
 returned-gives-back A a es few =
-    record { fits = number-fits 8 (numberOf a ∷ map effectCode es) (all a es few) (long a es few); refusal = refusal-back a es few; kind = kind-back a es few }
+    record { fits = number-below 8 (numberOf a ∷ map effectCode es) (long a es few) (all a es few); refusal = refusal-back a es few; kind = kind-back a es few }

@@ -2,7 +2,6 @@
 use mathlib.Core.Bool.{Bool, true, false, not, _&&_, cond}
 use mathlib.Core.List.{List, [], _∷_, _++_}
 use mathlib.Core.Option.{Option, none, some}
-use mathlib.Core.Path.{_≡_, refl}
 use Prim.Native.Nat.{ℕ, zero, suc, _+_, _≤_}
 use native.Mathlib.Omega.{arith}
 use lib.Dec.{lit≤}
@@ -13,7 +12,7 @@ use Rattle.model.specs.declared.TimeSource.the-variants.{Admin, NodeTime
 use Rattle.model.specs.Basics.{isSome, when}
 use Rattle.model.specs.Numbers.{granularityOf}
 use Rattle.model.specs.Lists.{Window, Lists}
-use Rattle.model.specs.Answers.{report, emit, wakeTimer, wakeClient, TrustedTimeSource, MissingTrustedTimeSource, TimeFailure, TrustedSource, Effect, storeMoment, DSTStatus, DSTTableEmpty, TimeZoneStatus}
+use Rattle.model.specs.Answers.{report, emit, wakeTimer, wakeClient, TrustedTimeSource, MissingTrustedTimeSource, TimeFailure, TrustedSource, storeMoment, DSTStatus, DSTTableEmpty, TimeZoneStatus}
 use Rattle.model.specs.Rules.{Verdict, accepted, turnedDown, testWindows}
 use Rattle.model.specs.Bytes.{readWindows}
 use Rattle.model.specs.History.{SetTimeZone, Load, verdict}

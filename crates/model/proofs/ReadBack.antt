@@ -74,7 +74,7 @@ spelt : (w : ℕ) (xs : List ℕ) → length xs ≡ w → AreBytes xs → bytes 
 spelt w xs e b = rw (← e) (bytes-number xs b)
 
 spelt-offset : (xs : List ℕ) → length xs ≡ 4 → AreBytes xs → bytes 4 (bitsOf (signed (number xs))) ≡ xs
-spelt-offset xs e b = rw (bits-signed (number xs) (number-below 4 xs e b)) (spelt 4 xs e b)
+spelt-offset xs e b = rw (bits-signed (number xs) (number-below 4 xs (omega arith) b)) (spelt 4 xs e b)
 
 -- three parts taken off one after another, the first two as `x` and `y` spell them
 three : (s a s₁ b s₂ c s₃ t x y : List ℕ) → s ≡ a ++ s₁ → s₁ ≡ b ++ s₂ → s₂ ≡ c ++ s₃ → s₃ ≡ t → x ≡ a → y ≡ b → s ≡ (x ++ (y ++ c)) ++ t
@@ -105,8 +105,8 @@ module _ {A B : Type 0} (tail : ℕ → List ℕ → Front A) (make : ℤ → �
       let om = byte-off (c .left) (m .took) (m .left) (oc .0 .left-bytes) (m .is) in
       let d = taken (tail (m .took) (m .left)) _ (x, t) (m .on) in
       let od = tail-off (m .took) (m .left) (d .took) (d .left) (om .left-bytes) (om .taken-bytes .0) (d .is) in
-      let n4 : number (a .took) < 256 ^ 4 = number-below 4 (a .took) (oa .1) (oa .0 .taken-bytes) in
-      let n8 : number (c .took) < 256 ^ 8 = number-below 8 (c .took) (oc .1) (oc .0 .taken-bytes) in
+      let n4 : number (a .took) < 256 ^ 4 = number-below 4 (a .took) (omega (arith, oa .1)) (oa .0 .taken-bytes) in
+      let n8 : number (c .took) < 256 ^ 8 = number-below 8 (c .took) (omega (arith, oc .1)) (oc .0 .taken-bytes) in
       let lt : d .left ≡ t = pair-right _ x (d .left) t (d .on) in
       record {
         offset = signed (number (a .took));
@@ -165,7 +165,7 @@ until-off (suc zero) s a t b l h =
     let oc = bytes-off 8 s (c .took) (c .left) b (c .is) in
     let p = pair-left (some (number (c .took))) a (c .left) t (c .on) in
     let q = pair-right (some (number (c .took))) a (c .left) t (c .on) in
-    let n8 : number (c .took) < 256 ^ 8 = number-below 8 (c .took) (oc .1) (oc .0 .taken-bytes) in
+    let n8 : number (c .took) < 256 ^ 8 = number-below 8 (c .took) (omega (arith, oc .1)) (oc .0 .taken-bytes) in
     let b8 = spelt 8 (c .took) (oc .1) (oc .0 .taken-bytes) in (
       ap (λ (x : List ℕ). 1 ∷ x)
           (oc .0 .is ∙ ap (λ (x : List ℕ). c .took ++ x) q ∙ ap (λ (x : List ℕ). x ++ t) (sym b8))

@@ -1,5 +1,5 @@
 -- The record of accepted lists reads back, is taken and is short enough; and so is the record that a store holds after any calls.
-use mathlib.Core.Bool.{Bool, true, false, _&&_}
+use mathlib.Core.Bool.{true}
 use mathlib.Core.List.{List, [], _∷_, _++_}
 use mathlib.Core.Option.{Option, none, some}
 use mathlib.Core.Path.{_≡_, refl, ap, _∙_}
@@ -90,11 +90,12 @@ module _ (r : Rules) (l : Lists) (k : Accepted r l) (e : readRecord (recordBytes
   unfolding after
   again old = ap (recordLoaded r old) e ∙ ap (λ (v : Verdict). ifAccepted v l old) (accepted-record r l k)
 
-record Limits (r : Rules) : Type 0 where
-  zones : r .zoneLimit ≤ 8
-  windows : r .windowLimit ≤ 16
+-- limits that are allowed are in range
+pub record Limits (r : Rules) : Type 0 where
+  pub zones : r .zoneLimit ≤ 8
+  pub windows : r .windowLimit ≤ 16
 
-limits : (r : Rules) → allowed r ≡ true → Limits r
+pub limits : (r : Rules) → allowed r ≡ true → Limits r
 unfolding allowed
 limits r h =
     let a = and-both (leb 1 (r .zoneLimit)) _ h in

@@ -10,11 +10,10 @@ use lib.Dec.{leb, eqb}
 use lib.ListN.{length, getElem?}
 use Rattle.model.specs.Numbers.{granularityNumber, granularityOf, granularities, sourceNumber, sourceOf, sources}
 use Rattle.model.specs.Clock as C
-use Rattle.model.proofs.Facts.{by-test}
+use Rattle.model.proofs.Facts.{by-test, and-both}
 use Rattle.word.specs.Place.{byteAt}
 use Rattle.table.specs.Layout.{markAt}
 use Rattle.image.specs.Parts.{orNoTime, orNone, clockIn}
-use Rattle.image.proofs.Outside.{both}
 use Rattle.lookups.proofs.Entries.{at-past}
 
 -- a test of every number below n
@@ -26,7 +25,7 @@ all-below : (test : ℕ → Bool) (n : ℕ) → allBelow test n ≡ true → (k 
 unfolding allBelow
 all-below test zero h k l = absurd (omega arith)
 all-below test (suc n) h k l =
-    let p = both (test n) (allBelow test n) h in
+    let p = and-both (test n) (allBelow test n) h in
     by-test (eqb k n)
     (λ e. subst (λ (i : ℕ). test i ≡ true) (sym (eqb-true k n e)) (p .0))
     (λ e. let d = eqb-false k n e in all-below test n (p .1) k (omega arith))

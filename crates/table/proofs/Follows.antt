@@ -21,6 +21,7 @@ use Rattle.model.specs.RoundTrip.{AreBytes, ZonesFit, WindowsFit, ListsFit}
 use Rattle.model.proofs.Facts.{by-test}
 use Rattle.model.proofs.Accepted.{entry, zone-meets, zones-fit, windows-fit, record-accepted, no-zones}
 use Rattle.model.proofs.ReadBack as B
+use Rattle.model.proofs.Stored.{limits}
 use Rattle.rules.specs.declared.Verdict.{Verdict}
 use Rattle.rules.specs.declared.Verdict.the-variants as Said
 use Rattle.rules.specs.Verdicts.{verdictOf, recordTested}
@@ -31,7 +32,7 @@ use Rattle.table.specs.Left.{timeZoneSaid, dstOffsetSaid, loadSaid, zone
 use Rattle.table.specs.Laws.{NameRoom, NamesRoom, NewIsNew, TimeZoneFollows, DSTOffsetFollows, LoadFollows, ResetFollows, LengthsStay}
 use Rattle.word.proofs.Frame.{length-placed, byte-in, word-in}
 use Rattle.table.proofs.Written.{zones-written, windows-written}
-use Rattle.table.proofs.Made.{limits, length-new}
+use Rattle.table.proofs.Made.{length-new}
 use Rattle.table.proofs.Requests.{zones-requested, windows-stay}
 use Rattle.table.proofs.Records.{record-stored}
 use Rattle.table.proofs.Room.{zonesShort, windowsShort, zones-pass, zones-taken, windows-set, zones-said, windows-said, zones-stay}

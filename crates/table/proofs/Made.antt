@@ -1,10 +1,10 @@
--- Limits that a store can have, and the bytes of a new table.
+-- The bytes of a new table, and where one is made.
 use mathlib.Core.Bool.{Bool, true, false, _&&_}
 use mathlib.Core.List.{List}
 use mathlib.Core.Path.{_≡_, refl}
 use Prim.Native.Nat.{ℕ, _≤_, _<_}
 use native.Mathlib.Omega.{arith}
-use borrow.Author.Tests.{leb-true, le-leb, lt-leb}
+use borrow.Author.Tests.{le-leb, lt-leb}
 use lib.Dec.{leb}
 use lib.ListN.{length, length-replicate}
 use Rattle.model.specs.declared.Refusal.the-variants as R
@@ -12,24 +12,6 @@ use Rattle.model.specs.Rules.{Rules, allowed}
 use Rattle.rules.specs.declared.Verdict.the-variants as Said
 use Rattle.table.specs.Layout.{tableSize, newBytes, newTable}
 use Rattle.table.specs.Left.{makes, newSaid, newLeft}
-
--- ## Limits
-
-pub record Limits (r : Rules) : Type 0 where
-  pub zones : r .zoneLimit ≤ 8
-  pub windows : r .windowLimit ≤ 16
-
-and-both : (a b : Bool) → a && b ≡ true → (a ≡ true) × (b ≡ true)
-and-both true b h = (refl, h)
-and-both false b h = (h, cc)
-
-pub limits : (r : Rules) → allowed r ≡ true → Limits r
-unfolding allowed
-limits r h =
-    let a = and-both (leb 1 (r .zoneLimit)) _ h in
-    let b = and-both (leb (r .zoneLimit) 8) _ (a .1) in
-    let c = and-both (leb 1 (r .windowLimit)) _ (b .1) in
-    record { zones = leb-true (r .zoneLimit) 8 (b .0); windows = leb-true (r .windowLimit) 16 (c .1) }
 
 -- ## A new table
 

@@ -35,7 +35,7 @@ module _ (s : List ℕ) (b : (i : ℕ) → getD s i 0 < 256) where
   word-below : (p : ℕ) → p + 4 ≤ length s → wordAt 4 s p < 256 ^ 4
   unfolding wordAt
   word-below p h =
-      rw (le-leb (p + 4) (length s) h) (number-below 4 (take 4 (drop p s)) (length-take-le 4 (drop p s) (omega (arith, length-drop p s))) (are-bytes (take 4 (drop p s)) (part-bytes 4 p)))
+      rw (le-leb (p + 4) (length s) h) (number-below 4 (take 4 (drop p s)) (omega (arith, length-take-le 4 (drop p s) (omega (arith, length-drop p s)))) (are-bytes (take 4 (drop p s)) (part-bytes 4 p)))
 
   -- offset and start
   head-raw : (p : ℕ) → p + 12 ≤ length s → bytes 4 (bitsOf (signed (wordAt 4 s p))) ++ bytes 8 (wordAt 8 s (p + 4)) ≡ take 12 (drop p s)

@@ -164,7 +164,7 @@ load-old : load 1000 clock (some 7) none .state ≡ record { utc = 1000; persist
 unfolding load
 load-old = refl
 
--- a stored moment above the build moment is both, and the stored source is the clock's
+-- a stored moment above the build moment is the UTC number and the persisted moment; the stored source is the clock's
 load-new : load 1000 clock (some 2000) (some (source 1 5 0))
     ≡ record {
       state = record { utc = 2000; persisted = 2000; granularity = NoTime; source = S.None; anchor = none; trusted = some (source 1 5 0) };

@@ -4,9 +4,10 @@ use native.Mathlib.Omega.{arith}
 use borrow.Author.Needs.{needs}
 use lib.ListN.{length}
 use Rattle.model.specs.Rules.{Rules, allowed}
+use Rattle.model.proofs.Stored.{Limits, limits}
 use Rattle.table.specs.Layout.{newBytes, newTable}
 use Rattle.word.proofs.Frame.{length-placed}
-use Rattle.table.proofs.Made.{Limits, limits, too-short, not-allowed, is-made, none-made, one-made}
+use Rattle.table.proofs.Made.{too-short, not-allowed, is-made, none-made, one-made}
 use Rattle.table.proofs.new.Statement.{statement}
 use Rattle.table.proofs.new.Tie as tie
 

@@ -1,7 +1,7 @@
 //! Random scripts on the Rust's clock, with what it answers to each step as `vectors` writes it.
 //!
-//! No step has a stored source of fabric index 0, a granularity or a time source that is none: there the port is
-//! meant to differ.
+//! No step has a stored source of fabric index 0, a granularity above 4 or a time source above 16: there the port
+//! is meant to differ.
 use std::num::NonZeroU8;
 
 use oracle::driver::{self, Device};
@@ -10,8 +10,7 @@ use oracle::tlv::Value;
 use oracle::trace::{self, Effect};
 
 use crate::input::{Rng, DAY, TOP};
-
-type Source = (u8, u64, u16);
+use crate::port::Source;
 
 /// A script so far: its bytes, and what each step answered
 struct Script {
@@ -43,7 +42,7 @@ impl Script {
         self.bytes.extend(tick.to_le_bytes());
         driver::set_tick(tick);
         let (Some(g), Some(s)) = (driver::granularity(granularity), driver::source(source)) else {
-            return Err("a granularity or a time source that is none".into());
+            return Err("a granularity or a time source out of range".into());
         };
         let fields = |device: &Device| {
             let (utc, _, granularity, source, _) = device.rtc_fields();
