@@ -10,29 +10,50 @@ use crate::store::TimeZoneStore;
 use crate::IMAGE_SIZE;
 
 /// The limits of a list store.
+///
+/// ```
+/// # use timesync::{Controller, Limits, Refusal};
+/// let limits = Limits { time_zone_max: 1, dst_offset_max: 16 };
+/// assert!(Controller::new(Some(limits), 0, 0).is_ok());
+/// let no_windows = Limits { dst_offset_max: 0, ..limits };
+/// assert_eq!(Controller::new(Some(no_windows), 0, 0).err(), Some(Refusal::BadLimits));
+/// ```
 #[derive(Debug, Clone, Copy, PartialEq, Eq, Hash)]
-pub struct ListStore {
+pub struct Limits {
     /// How many zones it takes, 1 to 8.
-    pub zone_limit: usize,
+    pub time_zone_max: usize,
     /// How many windows it takes, 1 to 16.
-    pub window_limit: usize,
+    pub dst_offset_max: usize,
 }
 
-impl ListStore {
-    /// The limits that the Rust store has by default.
-    pub const DEVICE: Self = ListStore {
-        zone_limit: 2,
-        window_limit: 2,
+impl Limits {
+    /// The limits that the store of rs-matter has by default.
+    pub const DEVICE: Self = Limits {
+        time_zone_max: 2,
+        dst_offset_max: 2,
     };
 
     /// The largest limits.
-    pub const LARGEST: Self = ListStore {
-        zone_limit: 8,
-        window_limit: 16,
+    pub const LARGEST: Self = Limits {
+        time_zone_max: 8,
+        dst_offset_max: 16,
     };
 }
 
 /// A controller: one image, owned or in lent bytes. A lent slice may be longer than an image; the bytes past it stay as they are.
+///
+/// ```
+/// # use timesync::{Controller, Limits, Refusal, UtcTime, IMAGE_SIZE};
+/// # fn main() -> Result<(), Refusal> {
+/// let (build, period) = (5, 3_600_000_000);
+/// let mut memory = [0; IMAGE_SIZE];
+/// let lent = Controller::new_in(&mut memory[..], Some(Limits::DEVICE), build, period)?;
+/// let owned = Controller::new(Some(Limits::DEVICE), build, period)?;
+/// assert_eq!(lent.as_bytes(), owned.as_bytes());
+/// assert_eq!(owned.rtc().utc_time(0)?, UtcTime::LastKnown(build));
+/// # Ok(())
+/// # }
+/// ```
 #[derive(Debug, Clone)]
 pub struct Controller<B = [u8; IMAGE_SIZE]> {
     bytes: B,
@@ -41,24 +62,24 @@ pub struct Controller<B = [u8; IMAGE_SIZE]> {
 impl Controller {
     /// A new controller that owns its image: with a list store of these limits, or without one; with the moment that the firmware was
     /// built and the period of the client in microseconds. Refused with BadLimits where the limits are not allowed.
-    pub fn new(list_store: Option<ListStore>, build: u64, period: u64) -> Result<Self, Refusal> {
-        Controller::new_in([0; IMAGE_SIZE], list_store, build, period)
+    pub fn new(limits: Option<Limits>, build: u64, period: u64) -> Result<Self, Refusal> {
+        Controller::new_in([0; IMAGE_SIZE], limits, build, period)
     }
 }
 
 impl<B: AsRef<[u8]> + AsMut<[u8]>> Controller<B> {
     /// A new controller in these bytes, whatever they hold. Refused with BadLimits where the limits are not allowed or the bytes are fewer
     /// than an image.
-    pub fn new_in(mut bytes: B, list_store: Option<ListStore>, build: u64, period: u64) -> Result<Self, Refusal> {
-        let limits = list_store.unwrap_or(ListStore {
-            zone_limit: 0,
-            window_limit: 0,
-        });
+    pub fn new_in(mut bytes: B, limits: Option<Limits>, build: u64, period: u64) -> Result<Self, Refusal> {
+        let Limits {
+            time_zone_max,
+            dst_offset_max,
+        } = limits.unwrap_or(Limits::DEVICE);
         let returned = entry::new(
             bytes.as_mut(),
-            u8::from(list_store.is_some()),
-            limits.zone_limit,
-            limits.window_limit,
+            u8::from(limits.is_some()),
+            time_zone_max,
+            dst_offset_max,
             build,
             period,
         );

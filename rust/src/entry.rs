@@ -6,7 +6,7 @@
 //!
 //! A reading returns 0 or the number of a refusal. A call that may change the image returns its number in the lowest byte and above it the
 //! code of each effect, the first lowest. On a refusal everything that was lent stays as it was, but for the windows that a refused
-//! SetDSTOffset empties and the change that it counts. [`Refusal`](crate::Refusal) and [`Effects`](crate::Effects) read what is returned.
+//! SetDSTOffset empties and the change that it counts. [`Refusal`](crate::Refusal) and [`EffectCodes`](crate::EffectCodes) read what is returned.
 
 #![allow(unsafe_code)]
 #![allow(clippy::too_many_arguments)]

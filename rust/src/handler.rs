@@ -1,43 +1,30 @@
 //! The handler: commands, attributes and the transition timer.
 
+use core::num::NonZeroU8;
+
+use crate::entries::{DSTOffsetEntry, TimeZoneOwned};
 use crate::entry;
-use crate::numbers::{Effect, Event, Refusal};
-use crate::outcome::{answer, Outcome};
-use crate::store::Name;
+use crate::name::Name;
+use crate::numbers::Refusal;
+use crate::outcome::{answer, Carried, Outcome};
+use crate::rtc::TrustedTimeSource;
 use crate::TIME_ZONE_NAME_MAX;
 
-/// A zone as it is listed.
-#[derive(Debug, Clone, Copy, PartialEq, Eq)]
-pub struct TimeZoneEntry {
-    /// Offset from UTC in seconds.
-    pub offset: i32,
-    /// The moment from which it counts.
-    pub valid_at: u64,
-    /// Its name, if it has one.
-    pub name: Option<Name>,
-}
-
-/// A window as it is listed.
-#[derive(Debug, Clone, Copy, PartialEq, Eq, Hash)]
-pub struct DSTOffsetEntry {
-    /// Offset from the zone's time in seconds, while the window is active.
-    pub offset: i32,
-    /// The moment at which it starts.
-    pub valid_starting: u64,
-    /// The moment at which it ends, if it does.
-    pub valid_until: Option<u64>,
-}
-
-/// What the event TimeZoneStatus carries.
-#[derive(Debug, Clone, Copy, PartialEq, Eq)]
-pub struct TimeZoneStatus {
-    /// The active zone's offset in seconds.
-    pub offset: i32,
-    /// Its name, if it has one.
-    pub name: Option<Name>,
-}
-
 /// How long the timer sleeps.
+///
+/// ```
+/// # fn perform(_: timesync::Effect) {}
+/// # use timesync::{Controller, Limits, Refusal, Sleep};
+/// # fn main() -> Result<(), Refusal> {
+/// let mut controller = Controller::new(Some(Limits::DEVICE), 0, 0)?;
+/// match controller.handler_mut().look(0).carry_out(perform)? {
+///     Sleep::Never => println!("there is no list store"),
+///     Sleep::UntilWoken => { /* until Effect::WakeTimer */ }
+///     Sleep::AtMost(us) => { /* so long, or until Effect::WakeTimer */ }
+/// }
+/// # Ok(())
+/// # }
+/// ```
 #[derive(Debug, Clone, Copy, PartialEq, Eq, Hash)]
 pub enum Sleep {
     /// There is no list store, so it never looks.
@@ -48,20 +35,28 @@ pub enum Sleep {
     AtMost(u64),
 }
 
-/// What a look of the timer found.
-#[derive(Debug, Clone, Copy, PartialEq, Eq)]
-pub struct Look {
-    /// What TimeZoneStatus carries, where it is emitted.
-    pub time_zone_status: Option<TimeZoneStatus>,
-    /// Whether a window is active, where DSTStatus is emitted.
-    pub dst_status: Option<bool>,
-    /// Whether DSTTableEmpty is emitted.
-    pub dst_table_empty: bool,
-    /// How long to sleep.
-    pub sleep: Sleep,
-}
-
 /// The handler of an image.
+///
+/// ```
+/// # fn perform(_: timesync::Effect) {}
+/// # use timesync::{encode_dst_offsets, encode_time_zones, Controller, DSTOffsetEntry, Limits, Refusal, TimeZoneEntry, RECORD_MAX};
+/// # fn main() -> Result<(), Refusal> {
+/// const HOUR: u64 = 3_600_000_000;
+/// let mut controller = Controller::new(Some(Limits::DEVICE), 0, HOUR)?;
+/// let (mut request, mut record) = ([0; 64], [0; RECORD_MAX]);
+/// let zones = encode_time_zones(&[TimeZoneEntry { offset: 3600, ..Default::default() }], &mut request)?;
+/// controller.handler_mut().handle_set_time_zone(zones, &mut record).carry_out(perform)?;
+/// let summer = DSTOffsetEntry { offset: 3600, valid_starting: 10 * HOUR, valid_until: Some(20 * HOUR) };
+/// let windows = encode_dst_offsets(&[summer], &mut request)?;
+/// controller.handler_mut().handle_set_dst_offset(windows, &mut record).carry_out(perform)?;
+/// controller.handler_mut().handle_set_utc_time(0, 4, None, 0).carry_out(perform)?;
+/// let handler = controller.handler();
+/// assert_eq!(handler.local_time(9 * HOUR)?, Some(10 * HOUR)); // before the window: the zone's offset
+/// assert_eq!(handler.local_time(10 * HOUR)?, Some(12 * HOUR)); // inside the window
+/// assert_eq!(handler.local_time(20 * HOUR)?, None); // the windows have run out
+/// # Ok(())
+/// # }
+/// ```
 #[derive(Debug)]
 pub struct TimeSyncHandler<I> {
     image: I,
@@ -88,7 +83,7 @@ impl<I: AsRef<[u8]>> TimeSyncHandler<I> {
     }
 
     /// TimeZone: the listed zone with this index. An empty list shows one zone, offset 0 from moment 0 with no name.
-    pub fn time_zone(&self, index: usize) -> Result<TimeZoneEntry, Refusal> {
+    pub fn time_zone(&self, index: usize) -> Result<TimeZoneOwned, Refusal> {
         let mut name = [0; TIME_ZONE_NAME_MAX];
         let (mut offset, mut valid_at, mut named, mut len) = (0, 0, 0, 0);
         answer(entry::time_zone(
@@ -100,7 +95,7 @@ impl<I: AsRef<[u8]>> TimeSyncHandler<I> {
             &mut named,
             &mut len,
         ))?;
-        Ok(TimeZoneEntry {
+        Ok(TimeZoneOwned {
             offset,
             valid_at,
             name: Name::read(name, named, len),
@@ -154,49 +149,62 @@ impl<I: AsRef<[u8]>> TimeSyncHandler<I> {
 impl<I: AsRef<[u8]> + AsMut<[u8]>> TimeSyncHandler<I> {
     /// SetUTCTime, with the numbers that the request has. Any readable time source is ignored: the clock's becomes Admin. Refused with
     /// Unreadable where a number names nothing.
-    pub fn handle_set_utc_time(&mut self, utc_us: u64, granularity: u8, time_source: Option<u8>, tick: u64) -> Outcome {
-        Outcome::from_returned(entry::set_utc_time(
+    pub fn handle_set_utc_time(&mut self, utc_us: u64, granularity: u8, time_source: Option<u8>, tick: u64) -> Outcome<'static> {
+        let returned = entry::set_utc_time(
             self.image.as_mut(),
             utc_us,
             granularity,
             u8::from(time_source.is_some()),
             time_source.unwrap_or(0),
             tick,
-        ))
+        );
+        Outcome::new(returned, (), Carried::default())
     }
 
-    /// SetTrustedTimeSource of the fabric that sends it: a node and its endpoint, or none. Refused with InvalidCommand where the fabric
-    /// index is 0.
-    pub fn handle_set_trusted_time_source(&mut self, fab_idx: u8, source: Option<(u64, u16)>) -> Outcome {
+    /// SetTrustedTimeSource of the fabric that sends it: a node and its endpoint, or none. A command of fabric index 0 is to be answered with
+    /// [`Refusal::InvalidCommand`]; it cannot be passed on.
+    pub fn handle_set_trusted_time_source(&mut self, fab_idx: NonZeroU8, source: Option<(u64, u16)>) -> Outcome<'static> {
         let (node_id, endpoint) = source.unwrap_or((0, 0));
-        Outcome::from_returned(entry::set_trusted_time_source(
-            self.image.as_mut(),
-            fab_idx,
-            u8::from(source.is_some()),
-            node_id,
-            endpoint,
-        ))
+        let named = u8::from(source.is_some());
+        let returned = entry::set_trusted_time_source(self.image.as_mut(), fab_idx.get(), named, node_id, endpoint);
+        let carried = Carried {
+            source: source.map(|(node_id, endpoint)| TrustedTimeSource {
+                fab_idx,
+                node_id,
+                endpoint,
+            }),
+            ..Carried::default()
+        };
+        Outcome::new(returned, (), carried)
     }
 
-    /// SetTimeZone, with its section of zones. Answers the length of the record to store, which stands at the front of `record`;
-    /// [`RECORD_MAX`](crate::RECORD_MAX) bytes always suffice. DSTOffsetRequired is true whenever it is accepted.
-    pub fn handle_set_time_zone(&mut self, request: &[u8], record: &mut [u8]) -> Outcome<usize> {
+    /// SetTimeZone, with its section of zones ([`encode_time_zones`](crate::encode_time_zones)). The record that is to be stored is written to
+    /// the front of `record`, for which [`RECORD_MAX`](crate::RECORD_MAX) bytes always suffice. DSTOffsetRequired is true whenever the
+    /// command is accepted.
+    pub fn handle_set_time_zone<'r>(&mut self, request: &[u8], record: &'r mut [u8]) -> Outcome<'r> {
+        self.set_list(entry::set_time_zone, request, record)
+    }
+
+    /// SetDSTOffset, with its section of windows ([`encode_dst_offsets`](crate::encode_dst_offsets)); the record as with
+    /// [`Self::handle_set_time_zone`]. Refused with ConstraintError or ResourceExhausted it empties the windows and wakes the timer.
+    pub fn handle_set_dst_offset<'r>(&mut self, request: &[u8], record: &'r mut [u8]) -> Outcome<'r> {
+        self.set_list(entry::set_dst_offset, request, record)
+    }
+
+    // a command on the lists
+    fn set_list<'r>(&mut self, set: fn(&mut [u8], &[u8], &mut [u8], &mut u64) -> u64, request: &[u8], record: &'r mut [u8]) -> Outcome<'r> {
         let mut used = 0;
-        let returned = entry::set_time_zone(self.image.as_mut(), request, record, &mut used);
-        Outcome::with(returned, || used as usize)
+        let returned = set(self.image.as_mut(), request, record, &mut used);
+        let carried = Carried {
+            record: record.get(..used as usize).unwrap_or(&[]),
+            ..Carried::default()
+        };
+        Outcome::new(returned, (), carried)
     }
 
-    /// SetDSTOffset, with its section of windows. Answers as [`Self::handle_set_time_zone`]. Refused with ConstraintError or
-    /// ResourceExhausted it empties the windows and wakes the timer.
-    pub fn handle_set_dst_offset(&mut self, request: &[u8], record: &mut [u8]) -> Outcome<usize> {
-        let mut used = 0;
-        let returned = entry::set_dst_offset(self.image.as_mut(), request, record, &mut used);
-        Outcome::with(returned, || used as usize)
-    }
-
-    /// A look of the transition timer at a tick. On a clock that is not set, and with no list store, no event is due and what the last look
-    /// saw stays.
-    pub fn look(&mut self, tick: u64) -> Outcome<Look> {
+    /// A look of the transition timer at a tick, which emits the events that are due and answers how long to sleep. On a clock that is not
+    /// set, and with no list store, no event is due and what the last look saw stays.
+    pub fn look(&mut self, tick: u64) -> Outcome<'static, Sleep> {
         let mut name = [0; TIME_ZONE_NAME_MAX];
         let (mut offset, mut named, mut len, mut active, mut sleep, mut sleep_us) = (0, 0, 0, 0, 0, 0);
         let returned = entry::look(
@@ -210,20 +218,17 @@ impl<I: AsRef<[u8]> + AsMut<[u8]>> TimeSyncHandler<I> {
             &mut sleep,
             &mut sleep_us,
         );
-        let outcome = Outcome::from_returned(returned);
-        let due = |event| outcome.effects.asks_for(Effect::Emit(event));
-        Outcome::with(returned, || Look {
-            time_zone_status: due(Event::TimeZoneStatus).then(|| TimeZoneStatus {
-                offset,
-                name: Name::read(name, named, len),
-            }),
-            dst_status: due(Event::DSTStatus).then_some(active != 0),
-            dst_table_empty: due(Event::DSTTableEmpty),
-            sleep: match sleep {
-                0 => Sleep::Never,
-                1 => Sleep::UntilWoken,
-                _ => Sleep::AtMost(sleep_us),
-            },
-        })
+        let carried = Carried {
+            offset,
+            name: Name::read(name, named, len),
+            dst_offset_active: active != 0,
+            ..Carried::default()
+        };
+        let sleep = match sleep {
+            0 => Sleep::Never,
+            1 => Sleep::UntilWoken,
+            _ => Sleep::AtMost(sleep_us),
+        };
+        Outcome::new(returned, sleep, carried)
     }
 }

@@ -1,5 +1,6 @@
-//! Granularities, time sources, refusals, attributes, events and effects, with their numbers.
+//! Granularities, time sources, refusals, attributes and events, with their numbers.
 
+use core::error::Error;
 use core::fmt;
 
 macro_rules! numbered {
@@ -33,6 +34,13 @@ macro_rules! numbered {
 
 numbered! {
     /// How fine the clock's time is.
+    ///
+    /// ```
+    /// use timesync::TimeGranularity;
+    ///
+    /// assert_eq!(TimeGranularity::from_number(2), Some(TimeGranularity::Seconds));
+    /// assert_eq!(TimeGranularity::from_number(5), None);
+    /// ```
     TimeGranularity {
         /// The time is not known.
         NoTime = 0,
@@ -49,6 +57,12 @@ numbered! {
 
 numbered! {
     /// Where the clock's time comes from.
+    ///
+    /// ```
+    /// use timesync::TimeSource;
+    ///
+    /// assert_eq!((TimeSource::GNSS.number(), TimeSource::ALL.len()), (16, 17));
+    /// ```
     TimeSource {
         /// Nowhere: the clock is not set.
         None = 0,
@@ -89,6 +103,17 @@ numbered! {
 
 numbered! {
     /// Why a call is turned down.
+    ///
+    /// ```
+    /// # use std::error::Error;
+    /// # use timesync::{Controller, Limits, Refusal};
+    /// fn boot() -> Result<Controller, Box<dyn Error>> {
+    ///     let limits = Limits { time_zone_max: 9, ..Limits::LARGEST };
+    ///     Ok(Controller::new(Some(limits), 0, 3_600_000_000)?)
+    /// }
+    /// let said = boot().unwrap_err().to_string();
+    /// assert_eq!(said, "bad limits: the limits are not allowed, or the bytes are not an image (8)");
+    /// ```
     Refusal {
         /// A request or a history that cannot be read, or a number out of range.
         Unreadable = 1,
@@ -113,23 +138,30 @@ numbered! {
 
 impl fmt::Display for Refusal {
     fn fmt(&self, f: &mut fmt::Formatter<'_>) -> fmt::Result {
-        f.write_str(match self {
-            Refusal::Unreadable => "cannot be read",
-            Refusal::ConstraintError => "constraint error",
-            Refusal::ResourceExhausted => "resource exhausted",
-            Refusal::InvalidCommand => "invalid command",
-            Refusal::CommandNotFound => "command not found",
-            Refusal::AttributeNotFound => "attribute not found",
-            Refusal::BadRecord => "bad record",
-            Refusal::BadLimits => "bad limits, or not an image",
-            Refusal::NoSpace => "no space in an output buffer",
-        })
+        let why = match self {
+            Refusal::Unreadable => "unreadable: the request cannot be read, or a number in it names nothing",
+            Refusal::ConstraintError => "constraint error: an entry breaks a rule, or an index is past the list",
+            Refusal::ResourceExhausted => "resource exhausted: there are more entries than the limit",
+            Refusal::InvalidCommand => "invalid command: no fabric has index 0",
+            Refusal::CommandNotFound => "command not found: there is no list store",
+            Refusal::AttributeNotFound => "attribute not found: there is no list store",
+            Refusal::BadRecord => "bad record: what flash holds cannot be read or is not taken",
+            Refusal::BadLimits => "bad limits: the limits are not allowed, or the bytes are not an image",
+            Refusal::NoSpace => "no space: an output buffer is too short",
+        };
+        write!(f, "{why} ({})", self.number())
     }
 }
 
+impl Error for Refusal {}
+
 numbered! {
     /// Attributes that are reported, with Matter's numbers.
-    Attribute {
+    ///
+    /// ```
+    /// assert_eq!(timesync::AttributeId::DSTOffset.number(), 6);
+    /// ```
+    AttributeId {
         /// UTCTime.
         UTCTime = 0,
         /// Granularity.
@@ -147,7 +179,11 @@ numbered! {
 
 numbered! {
     /// Events that are emitted, with Matter's numbers.
-    Event {
+    ///
+    /// ```
+    /// assert_eq!(timesync::EventId::DSTTableEmpty.number(), 0);
+    /// ```
+    EventId {
         /// No window is usable any more.
         DSTTableEmpty = 0,
         /// A window became active or inactive.
@@ -158,71 +194,5 @@ numbered! {
         TimeFailure = 3,
         /// There is no trusted time source, or it does not answer.
         MissingTrustedTimeSource = 4,
-    }
-}
-
-/// What a call asks the caller to do.
-#[derive(Debug, Clone, Copy, PartialEq, Eq, Hash)]
-pub enum Effect {
-    /// Report that the attribute changed.
-    Report(Attribute),
-    /// Emit the event.
-    Emit(Event),
-    /// Wake the transition timer, which then looks.
-    WakeTimer,
-    /// Tell the client that the trusted time source was set or cleared, which then says what comes next.
-    WakeClient,
-    /// Store the record of the lists, which the call copied out.
-    StoreRecord,
-    /// Remove the record of the lists from flash.
-    RemoveRecord,
-    /// Store the moment that the call was given.
-    StoreMoment,
-    /// Remove the moment from flash.
-    RemoveMoment,
-    /// Store the trusted time source that the call was given.
-    StoreSource,
-    /// Remove the trusted time source from flash.
-    RemoveSource,
-}
-
-impl Effect {
-    /// Its code, one byte and never 0.
-    pub const fn code(self) -> u8 {
-        match self {
-            Effect::Report(attribute) => 0x10 + attribute.number(),
-            Effect::Emit(event) => 0x20 + event.number(),
-            Effect::WakeTimer => 0x30,
-            Effect::WakeClient => 0x31,
-            Effect::StoreRecord => 0x40,
-            Effect::RemoveRecord => 0x41,
-            Effect::StoreMoment => 0x42,
-            Effect::RemoveMoment => 0x43,
-            Effect::StoreSource => 0x44,
-            Effect::RemoveSource => 0x45,
-        }
-    }
-
-    /// The effect that has this code.
-    pub const fn from_code(code: u8) -> Option<Self> {
-        match code {
-            0x10..=0x1F => match Attribute::from_number(code - 0x10) {
-                Some(attribute) => Some(Effect::Report(attribute)),
-                None => None,
-            },
-            0x20..=0x2F => match Event::from_number(code - 0x20) {
-                Some(event) => Some(Effect::Emit(event)),
-                None => None,
-            },
-            0x30 => Some(Effect::WakeTimer),
-            0x31 => Some(Effect::WakeClient),
-            0x40 => Some(Effect::StoreRecord),
-            0x41 => Some(Effect::RemoveRecord),
-            0x42 => Some(Effect::StoreMoment),
-            0x43 => Some(Effect::RemoveMoment),
-            0x44 => Some(Effect::StoreSource),
-            0x45 => Some(Effect::RemoveSource),
-            _ => None,
-        }
     }
 }

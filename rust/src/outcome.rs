@@ -1,36 +1,121 @@
 //! What a call returns: its answer and its effects.
 
-use core::iter::FusedIterator;
+use crate::effect::{Effect, EffectCode, EffectCodes, Event};
+use crate::name::Name;
+use crate::numbers::{EventId, Refusal};
+use crate::rtc::TrustedTimeSource;
 
-use crate::numbers::{Effect, Refusal};
-
-/// The answer of a call that may change the image, and what it asks for. A refused call can have effects too: a SetDSTOffset that breaks a
-/// rule empties the windows and wakes the timer.
+/// The answer of a call that may change the image, and the effects that it asks for. A call that was turned down can ask for effects too: a
+/// SetDSTOffset that breaks a rule has emptied the windows, and the timer is to be woken. So the answer is behind the effects:
+/// [`carry_out`](Self::carry_out) is the one way to it.
+///
+/// ```
+/// # use timesync::{encode_dst_offsets, Controller, DSTOffsetEntry, Effect, Limits, Refusal, RECORD_MAX};
+/// # fn main() -> Result<(), Refusal> {
+/// let mut controller = Controller::new(Some(Limits::DEVICE), 0, 3_600_000_000)?;
+/// let open = DSTOffsetEntry { offset: 0, valid_starting: 0, valid_until: None };
+/// let (mut request, mut record) = ([0; 64], [0; RECORD_MAX]);
+/// // nothing can follow an open window
+/// let request = encode_dst_offsets(&[open, open], &mut request)?;
+/// let mut woken = false;
+/// let answer = controller
+///     .handler_mut()
+///     .handle_set_dst_offset(request, &mut record)
+///     .carry_out(|effect| woken |= effect == Effect::WakeTimer);
+/// assert_eq!((answer, woken), (Err(Refusal::ConstraintError), true));
+/// # Ok(())
+/// # }
+/// ```
+///
+/// What would lose the effects does not compile. There is no answer to ask for first:
+///
+/// ```compile_fail,E0616
+/// # use timesync::{Controller, Refusal};
+/// # fn main() -> Result<(), Refusal> {
+/// # let mut controller = Controller::new(None, 0, 3_600_000_000)?;
+/// controller.handler_mut().handle_set_utc_time(5, 4, None, 0).answer?;
+/// # Ok(())
+/// # }
+/// ```
+///
+/// and the compiler warns of an outcome that is not used:
+///
+/// ```compile_fail
+/// #![deny(unused_must_use)]
+/// # use timesync::{Controller, Refusal};
+/// # fn main() -> Result<(), Refusal> {
+/// # let mut controller = Controller::new(None, 0, 3_600_000_000)?;
+/// controller.handler_mut().handle_set_utc_time(5, 4, None, 0);
+/// # Ok(())
+/// # }
+/// ```
 #[derive(Debug, Clone, PartialEq, Eq)]
-#[must_use = "the effects are to be carried out"]
-pub struct Outcome<T = ()> {
-    /// What it answers, or why it was turned down.
-    pub answer: Result<T, Refusal>,
-    /// What it asks for, in order.
-    pub effects: Effects,
+#[must_use = "carry_out does what the call asks for, also where it was turned down, and gives its answer"]
+pub struct Outcome<'a, T = ()> {
+    answer: Result<T, Refusal>,
+    effects: EffectCodes,
+    carried: Carried<'a>,
 }
 
-impl Outcome {
-    /// Of what a function of [`entry`](crate::entry) returned.
-    pub fn from_returned(returned: u64) -> Self {
+impl<'a, T> Outcome<'a, T> {
+    /// Of what a function of [`entry`](crate::entry) returned, with the value that it answers where it was taken and what its effects carry.
+    pub(crate) fn new(returned: u64, value: T, carried: Carried<'a>) -> Self {
         Outcome {
-            answer: answer(returned),
-            effects: Effects::from_returned(returned),
+            answer: answer(returned).map(|()| value),
+            effects: EffectCodes::from_returned(returned),
+            carried,
         }
+    }
+
+    /// Hands each effect out, in order, and then answers: what the call answers, or why it was turned down.
+    pub fn carry_out(self, mut each: impl FnMut(Effect<'_>)) -> Result<T, Refusal> {
+        for effect in self.effects.filter_map(|code| self.carried.effect(code)) {
+            each(effect);
+        }
+        self.answer
     }
 }
 
-impl<T> Outcome<T> {
-    /// With a value where the call was taken.
-    pub(crate) fn with(returned: u64, value: impl FnOnce() -> T) -> Self {
-        Outcome {
-            answer: answer(returned).map(|()| value()),
-            effects: Effects::from_returned(returned),
+/// What the effects of a call carry.
+#[derive(Debug, Clone, PartialEq, Eq, Default)]
+pub(crate) struct Carried<'a> {
+    pub record: &'a [u8],
+    pub moment: u64,
+    pub source: Option<TrustedTimeSource>,
+    pub offset: i32,
+    pub name: Option<Name>,
+    pub dst_offset_active: bool,
+}
+
+impl Carried<'_> {
+    /// The effect of a code. A source is stored only by a call that was given one, so none is left out.
+    fn effect(&self, code: EffectCode) -> Option<Effect<'_>> {
+        Some(match code {
+            EffectCode::Report(attribute) => Effect::Report(attribute),
+            EffectCode::Emit(event) => Effect::Emit(self.event(event)),
+            EffectCode::WakeTimer => Effect::WakeTimer,
+            EffectCode::WakeClient => Effect::WakeClient,
+            EffectCode::StoreRecord => Effect::StoreRecord(self.record),
+            EffectCode::RemoveRecord => Effect::RemoveRecord,
+            EffectCode::StoreMoment => Effect::StoreMoment(self.moment),
+            EffectCode::RemoveMoment => Effect::RemoveMoment,
+            EffectCode::StoreSource => Effect::StoreSource(self.source?),
+            EffectCode::RemoveSource => Effect::RemoveSource,
+        })
+    }
+
+    fn event(&self, event: EventId) -> Event<'_> {
+        match event {
+            EventId::DSTTableEmpty => Event::DSTTableEmpty,
+            EventId::DSTStatus => Event::DSTStatus {
+                dst_offset_active: self.dst_offset_active,
+            },
+            EventId::TimeZoneStatus => Event::TimeZoneStatus {
+                offset: self.offset,
+                name: self.name.as_deref(),
+            },
+            EventId::TimeFailure => Event::TimeFailure,
+            EventId::MissingTrustedTimeSource => Event::MissingTrustedTimeSource,
         }
     }
 }
@@ -42,40 +127,3 @@ pub(crate) fn answer(returned: u64) -> Result<(), Refusal> {
         number => Err(Refusal::from_number(number).unwrap_or(Refusal::BadLimits)),
     }
 }
-
-/// The effects of a call, in order.
-#[derive(Debug, Clone, PartialEq, Eq, Default)]
-#[must_use = "the effects are to be carried out"]
-pub struct Effects {
-    // the codes that are left, the next one lowest
-    codes: u64,
-}
-
-impl Effects {
-    /// Of what a function of [`entry`](crate::entry) returned.
-    pub const fn from_returned(returned: u64) -> Self {
-        Effects { codes: returned >> 8 }
-    }
-
-    /// Whether nothing is asked for.
-    pub const fn is_empty(&self) -> bool {
-        self.codes == 0
-    }
-
-    /// Whether this effect is among them.
-    pub fn asks_for(&self, effect: Effect) -> bool {
-        self.clone().any(|e| e == effect)
-    }
-}
-
-impl Iterator for Effects {
-    type Item = Effect;
-
-    fn next(&mut self) -> Option<Effect> {
-        let effect = Effect::from_code(self.codes as u8);
-        self.codes = if effect.is_some() { self.codes >> 8 } else { 0 };
-        effect
-    }
-}
-
-impl FusedIterator for Effects {}

@@ -1,13 +1,27 @@
 //! A whole history on a new list store.
 
-use crate::controller::ListStore;
+use crate::controller::Limits;
 use crate::entry;
+use crate::name::Name;
 use crate::numbers::Refusal;
 use crate::outcome::answer;
-use crate::store::{Name, Walk};
+use crate::store::Walk;
 use crate::{MOMENTS_MAX, TIME_ZONE_NAME_MAX};
 
 /// What a history leaves, and what is looked up in it.
+///
+/// ```
+/// # use timesync::{replay, Limits, Refusal, RECORD_MAX};
+/// # fn main() -> Result<(), Refusal> {
+/// // a factory reset, and nothing else
+/// let (history, start, at) = ([4], 5, 9);
+/// let mut record = [0; RECORD_MAX];
+/// let replayed = replay(Limits::DEVICE, &history, start, at, &mut record)?;
+/// assert_eq!((replayed.walk.moments(), replayed.generation), (&[5][..], 1));
+/// assert_eq!(record[..replayed.record_len], [0, 0]);
+/// # Ok(())
+/// # }
+/// ```
 #[derive(Debug, Clone, Copy, PartialEq, Eq)]
 pub struct Replayed {
     /// The walk from the starting moment.
@@ -30,14 +44,21 @@ pub struct Replayed {
 /// other: a kind (0 SetTimeZone, 1 SetDSTOffset, 2 load, 3 load without a record, 4 factory reset), and for the first three a length in 4
 /// bytes, little endian, and so many bytes. Refused with BadLimits, with Unreadable where the bytes are not a history, and with NoSpace
 /// where the record does not fit.
-pub fn replay(limits: ListStore, history: &[u8], start: u64, at: u64, record: &mut [u8]) -> Result<Replayed, Refusal> {
+///
+/// ```
+/// # use timesync::{replay, Limits, Refusal, RECORD_MAX};
+/// let mut record = [0; RECORD_MAX];
+/// // no call has kind 5
+/// assert_eq!(replay(Limits::DEVICE, &[5], 0, 0, &mut record), Err(Refusal::Unreadable));
+/// ```
+pub fn replay(limits: Limits, history: &[u8], start: u64, at: u64, record: &mut [u8]) -> Result<Replayed, Refusal> {
     let (mut moments, mut name) = ([0; 8 * MOMENTS_MAX], [0; TIME_ZONE_NAME_MAX]);
     let (mut steps, mut used, mut generation) = (0, 0, 0);
     let (mut zone, mut named, mut name_used) = (0, 0, 0);
     let (mut active, mut window, mut usable, mut has_next, mut next) = (0, 0, 0, 0, 0);
     answer(entry::replay(
-        limits.zone_limit,
-        limits.window_limit,
+        limits.time_zone_max,
+        limits.dst_offset_max,
         history,
         start,
         at,

@@ -1,10 +1,19 @@
 //! The clock.
 
+use core::num::NonZeroU8;
+
 use crate::entry;
 use crate::numbers::{Refusal, TimeGranularity, TimeSource};
-use crate::outcome::{answer, Outcome};
+use crate::outcome::{answer, Carried, Outcome};
 
 /// The UTC time, in microseconds since the Matter epoch.
+///
+/// ```
+/// use timesync::UtcTime;
+///
+/// assert_eq!(UtcTime::Reliable(5).reliable(), Some(5));
+/// assert_eq!((UtcTime::LastKnown(5).reliable(), UtcTime::LastKnown(5).any()), (None, 5));
+/// ```
 #[derive(Debug, Clone, Copy, PartialEq, Eq, Hash)]
 pub enum UtcTime {
     /// The clock is set: the current moment.
@@ -31,10 +40,19 @@ impl UtcTime {
 }
 
 /// The trusted time source: the fabric that set it, a node of that fabric and an endpoint of the node.
+///
+/// ```
+/// # use std::num::NonZeroU8;
+/// use timesync::TrustedTimeSource;
+///
+/// // of a fabric index that was read from somewhere; no fabric has index 0
+/// let source = |fab_idx| Some(TrustedTimeSource { fab_idx: NonZeroU8::new(fab_idx)?, node_id: 7, endpoint: 0 });
+/// assert_eq!((source(1).is_some(), source(0)), (true, None));
+/// ```
 #[derive(Debug, Clone, Copy, PartialEq, Eq, Hash)]
 pub struct TrustedTimeSource {
-    /// The fabric's index. A load with 0 is refused, so no call makes one of 0.
-    pub fab_idx: u8,
+    /// The fabric's index.
+    pub fab_idx: NonZeroU8,
     /// The node.
     pub node_id: u64,
     /// The endpoint.
@@ -42,6 +60,19 @@ pub struct TrustedTimeSource {
 }
 
 /// The clock of an image.
+///
+/// ```
+/// # fn perform(_: timesync::Effect) {}
+/// # use timesync::{Controller, Refusal, TimeGranularity, TimeSource, UtcTime};
+/// # fn main() -> Result<(), Refusal> {
+/// let mut controller = Controller::new(None, 5, 3_600_000_000)?;
+/// assert_eq!(controller.rtc().utc_time(100)?, UtcTime::LastKnown(5));
+/// let set = controller.rtc_mut().set_utc_time(1000, TimeGranularity::Seconds, TimeSource::GNSS, 100);
+/// let changed = set.carry_out(perform)?;
+/// assert_eq!((changed, controller.rtc().utc_time(130)?), (true, UtcTime::Reliable(1030)));
+/// # Ok(())
+/// # }
+/// ```
 #[derive(Debug)]
 pub struct Rtc<I> {
     image: I,
@@ -78,7 +109,7 @@ impl<I: AsRef<[u8]>> Rtc<I> {
         Ok(TimeSource::from_number(value as u8).unwrap_or(TimeSource::None))
     }
 
-    /// The trusted time source, if there is one.
+    /// The trusted time source, if there is one. A damaged image can hold one of fabric index 0, which is shown as none.
     pub fn trusted_time_source(&self) -> Result<Option<TrustedTimeSource>, Refusal> {
         let (mut there, mut fab_idx, mut node_id, mut endpoint) = (0, 0, 0, 0);
         answer(entry::trusted_time_source(
@@ -88,8 +119,9 @@ impl<I: AsRef<[u8]>> Rtc<I> {
             &mut node_id,
             &mut endpoint,
         ))?;
-        Ok((there != 0).then_some(TrustedTimeSource {
-            fab_idx: fab_idx as u8,
+        // where there is none, all four numbers are 0
+        Ok(NonZeroU8::new(fab_idx as u8).map(|fab_idx| TrustedTimeSource {
+            fab_idx,
             node_id,
             endpoint: endpoint as u16,
         }))
@@ -99,23 +131,32 @@ impl<I: AsRef<[u8]>> Rtc<I> {
 impl<I: AsRef<[u8]> + AsMut<[u8]>> Rtc<I> {
     /// Sets the clock at a tick and stores nothing; answers whether something changed. The granularity is kept one step lower, and never
     /// below Minutes. A setting that changes nothing leaves a set clock as it was.
-    pub fn set_utc_time(&mut self, utc_us: u64, granularity: TimeGranularity, source: TimeSource, tick: u64) -> Outcome<bool> {
-        let mut changed = 0;
-        let returned = entry::rtc_set_utc_time(
-            self.image.as_mut(),
-            utc_us,
-            granularity.number(),
-            source.number(),
-            tick,
-            &mut changed,
-        );
-        Outcome::with(returned, || changed != 0)
+    pub fn set_utc_time(&mut self, utc_us: u64, granularity: TimeGranularity, source: TimeSource, tick: u64) -> Outcome<'static, bool> {
+        self.set(entry::rtc_set_utc_time, utc_us, granularity, source, tick)
     }
 
     /// The same, and has the moment stored where it is a day or more from the persisted one.
-    pub fn set_utc_time_persist(&mut self, utc_us: u64, granularity: TimeGranularity, source: TimeSource, tick: u64) -> Outcome<bool> {
+    pub fn set_utc_time_persist(
+        &mut self,
+        utc_us: u64,
+        granularity: TimeGranularity,
+        source: TimeSource,
+        tick: u64,
+    ) -> Outcome<'static, bool> {
+        self.set(entry::rtc_set_utc_time_persist, utc_us, granularity, source, tick)
+    }
+
+    // a setting; the moment is what it stores, if it stores
+    fn set(
+        &mut self,
+        set: fn(&mut [u8], u64, u8, u8, u64, &mut u64) -> u64,
+        utc_us: u64,
+        granularity: TimeGranularity,
+        source: TimeSource,
+        tick: u64,
+    ) -> Outcome<'static, bool> {
         let mut changed = 0;
-        let returned = entry::rtc_set_utc_time_persist(
+        let returned = set(
             self.image.as_mut(),
             utc_us,
             granularity.number(),
@@ -123,31 +164,30 @@ impl<I: AsRef<[u8]> + AsMut<[u8]>> Rtc<I> {
             tick,
             &mut changed,
         );
-        Outcome::with(returned, || changed != 0)
+        let carried = Carried {
+            moment: utc_us,
+            ..Carried::default()
+        };
+        Outcome::new(returned, changed != 0, carried)
     }
 
-    /// Loads the clock from what flash holds of it. The moment never reads below the build moment. Refused with BadRecord where the source
-    /// has fabric index 0, and then the clock stays as it was.
-    pub fn load_persist(&mut self, build: u64, moment: Option<u64>, source: Option<TrustedTimeSource>) -> Outcome {
-        let stored = source.unwrap_or(TrustedTimeSource {
-            fab_idx: 0,
-            node_id: 0,
-            endpoint: 0,
-        });
-        Outcome::from_returned(entry::load_clock(
+    /// Loads the clock from what flash holds of it. The moment never reads below the build moment. It asks for no effects. A stored source of
+    /// fabric index 0 cannot be passed on: load the clock without it, so that its moment is not lost, and tell the administrator.
+    pub fn load_persist(&mut self, build: u64, moment: Option<u64>, source: Option<TrustedTimeSource>) -> Result<(), Refusal> {
+        answer(entry::load_clock(
             self.image.as_mut(),
             build,
             u8::from(moment.is_some()),
             moment.unwrap_or(0),
             u8::from(source.is_some()),
-            stored.fab_idx,
-            stored.node_id,
-            stored.endpoint,
+            source.map_or(0, |stored| stored.fab_idx.get()),
+            source.map_or(0, |stored| stored.node_id),
+            source.map_or(0, |stored| stored.endpoint),
         ))
     }
 
     /// Factory reset of the clock.
-    pub fn reset_persist(&mut self, build: u64) -> Outcome {
-        Outcome::from_returned(entry::reset_clock(self.image.as_mut(), build))
+    pub fn reset_persist(&mut self, build: u64) -> Outcome<'static> {
+        Outcome::new(entry::reset_clock(self.image.as_mut(), build), (), Carried::default())
     }
 }

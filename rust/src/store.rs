@@ -1,59 +1,31 @@
 //! The list store.
 
 use core::fmt;
-use core::str::{from_utf8, Utf8Error};
 
 use crate::entry;
+use crate::name::Name;
 use crate::numbers::Refusal;
-use crate::outcome::{answer, Outcome};
+use crate::outcome::{answer, Carried, Outcome};
 use crate::{MOMENTS_MAX, TIME_ZONE_NAME_MAX};
 
-/// The name of a zone, at most [`TIME_ZONE_NAME_MAX`] bytes.
-#[derive(Clone, Copy)]
-pub struct Name {
-    bytes: [u8; TIME_ZONE_NAME_MAX],
-    len: u8,
-}
-
-impl Name {
-    /// The name in these bytes, where it is there.
-    pub(crate) fn read(bytes: [u8; TIME_ZONE_NAME_MAX], named: u64, len: u64) -> Option<Self> {
-        (named != 0).then_some(Name {
-            bytes,
-            len: len.min(TIME_ZONE_NAME_MAX as u64) as u8,
-        })
-    }
-
-    /// Its bytes.
-    pub fn as_bytes(&self) -> &[u8] {
-        self.bytes.get(..usize::from(self.len)).unwrap_or(&[])
-    }
-
-    /// Its text. The commands accept well-formed UTF-8 alone, so this fails only on bytes that no command wrote.
-    pub fn as_str(&self) -> Result<&str, Utf8Error> {
-        from_utf8(self.as_bytes())
-    }
-}
-
-impl PartialEq for Name {
-    fn eq(&self, other: &Self) -> bool {
-        self.as_bytes() == other.as_bytes()
-    }
-}
-
-impl Eq for Name {}
-
-impl fmt::Debug for Name {
-    fn fmt(&self, f: &mut fmt::Formatter<'_>) -> fmt::Result {
-        match self.as_str() {
-            Ok(text) => fmt::Debug::fmt(text, f),
-            Err(_) => fmt::Debug::fmt(self.as_bytes(), f),
-        }
-    }
-}
-
 /// The moments walked, ascending and the starting moment first.
-#[derive(Debug, Clone, Copy)]
+///
+/// ```
+/// # fn perform(_: timesync::Effect) {}
+/// # use timesync::{encode_dst_offsets, Controller, DSTOffsetEntry, Limits, Refusal, RECORD_MAX};
+/// # fn main() -> Result<(), Refusal> {
+/// # let mut controller = Controller::new(Some(Limits::DEVICE), 0, 0)?;
+/// let window = DSTOffsetEntry { offset: 3600, valid_starting: 10, valid_until: Some(20) };
+/// # let (mut request, mut record) = ([0; 64], [0; RECORD_MAX]);
+/// # let request = encode_dst_offsets(&[window], &mut request)?;
+/// # controller.handler_mut().handle_set_dst_offset(request, &mut record).carry_out(perform)?;
+/// let walk = controller.store().walk(5)?;
+/// assert_eq!((walk.steps(), walk.moments()), (2, &[5, 10, 20][..]));
+/// assert_eq!(format!("{walk:?}"), "Walk([5, 10, 20])");
+/// # Ok(())
+/// # }
+/// ```
+#[derive(Clone, Copy)]
 pub struct Walk {
     moments: [u64; MOMENTS_MAX],
     steps: usize,
@@ -93,7 +65,28 @@ impl PartialEq for Walk {
 
 impl Eq for Walk {}
 
+impl fmt::Debug for Walk {
+    fn fmt(&self, f: &mut fmt::Formatter<'_>) -> fmt::Result {
+        f.debug_tuple("Walk").field(&self.moments()).finish()
+    }
+}
+
 /// The list store of an image. Where it has none, readings are refused with AttributeNotFound, and load and reset do nothing.
+///
+/// ```
+/// # use timesync::{Controller, Effect, Limits, Refusal};
+/// # fn main() -> Result<(), Refusal> {
+/// let mut controller = Controller::new(Some(Limits::DEVICE), 0, 0)?;
+/// // no zones, and one window from moment 10 to moment 20
+/// let flash = [0, 1, 0x10, 0x0E, 0, 0, 10, 0, 0, 0, 0, 0, 0, 0, 1, 20, 0, 0, 0, 0, 0, 0, 0];
+/// controller.store_mut().load_persist(Some(&flash))?;
+/// let store = controller.store();
+/// assert_eq!((store.active_dst_offset(5)?, store.dst_usable(5)?), (None, true)); // before the window
+/// assert_eq!((store.active_dst_offset(10)?, store.dst_usable(10)?), (Some(3600), true)); // inside it
+/// assert_eq!((store.active_dst_offset(20)?, store.dst_usable(20)?), (None, false)); // run out
+/// # Ok(())
+/// # }
+/// ```
 #[derive(Debug)]
 pub struct TimeZoneStore<I> {
     image: I,
@@ -174,10 +167,10 @@ impl<I: AsRef<[u8]>> TimeZoneStore<I> {
 }
 
 impl<I: AsRef<[u8]> + AsMut<[u8]>> TimeZoneStore<I> {
-    /// Loads the lists from the record that flash holds, if it holds one. No change is counted and the timer is not woken. Refused with
-    /// BadRecord where the record cannot be read or would not be accepted, and then the lists stay as they were.
-    pub fn load(&mut self, stored: Option<&[u8]>) -> Outcome {
-        Outcome::from_returned(entry::load_lists(
+    /// Loads the lists from the record that flash holds, if it holds one. No change is counted, and it asks for no effects: the timer is not
+    /// woken. Refused with BadRecord where the record cannot be read or would not be accepted, and then the lists stay as they were.
+    pub fn load_persist(&mut self, stored: Option<&[u8]>) -> Result<(), Refusal> {
+        answer(entry::load_lists(
             self.image.as_mut(),
             u8::from(stored.is_some()),
             stored.unwrap_or(&[]),
@@ -185,7 +178,7 @@ impl<I: AsRef<[u8]> + AsMut<[u8]>> TimeZoneStore<I> {
     }
 
     /// Factory reset of the lists.
-    pub fn reset(&mut self) -> Outcome {
-        Outcome::from_returned(entry::reset_lists(self.image.as_mut()))
+    pub fn reset_persist(&mut self) -> Outcome<'static> {
+        Outcome::new(entry::reset_lists(self.image.as_mut()), (), Carried::default())
     }
 }

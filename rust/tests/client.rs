@@ -4,16 +4,16 @@ mod common;
 
 use common::reference::image::{CLIENT, CLOCK};
 use common::{made, prepared, taken, Call, DAY, HOUR};
-use timesync::Effect::{Emit, Report, StoreMoment};
-use timesync::{entry, Attribute, Effect, Event};
+use timesync::EffectCode::{Emit, Report, StoreMoment};
+use timesync::{entry, AttributeId, EffectCode, EventId};
 
 const SECOND: u64 = 1_000_000;
 const MINUTE: u64 = 60 * SECOND;
 
-const UTC: [Effect; 3] = [
-    Report(Attribute::UTCTime),
-    Report(Attribute::Granularity),
-    Report(Attribute::TimeSource),
+const UTC: [EffectCode; 3] = [
+    Report(AttributeId::UTCTime),
+    Report(AttributeId::Granularity),
+    Report(AttributeId::TimeSource),
 ];
 
 /// An image with a trusted time source, no list store and a client of this period.
@@ -43,7 +43,7 @@ fn reading(utc: Option<u64>, granularity: Option<u8>, tick: u64) -> Call {
 
 #[test]
 fn without_a_source() {
-    let both = [Emit(Event::MissingTrustedTimeSource), Emit(Event::TimeFailure)];
+    let both = [Emit(EventId::MissingTrustedTimeSource), Emit(EventId::TimeFailure)];
     // it waits for one, whatever came, and the events come once an hour
     let (effects, none) = taken(&made(None), reading(Some(5), Some(4), 10));
     assert_eq!((&effects[..], &none.n[..2]), (&both[..], &[2, 0][..]));
@@ -63,7 +63,7 @@ fn an_answer_from_a_source_that_was_cleared() {
     // the source was there when the exchange was opened: what it brought is not applied
     let image = prepared(sourced(HOUR), &[Call::SetTrustedTimeSource(1, 0, 0, 0)]);
     let (effects, lent) = taken(&image, reading(Some(9 * DAY), Some(4), 5));
-    assert_eq!(effects, [Emit(Event::MissingTrustedTimeSource), Emit(Event::TimeFailure)]);
+    assert_eq!(effects, [Emit(EventId::MissingTrustedTimeSource), Emit(EventId::TimeFailure)]);
     assert_eq!(lent.n[..2], [2, 0]);
     assert_eq!(taken(&lent.image, Call::UtcTime(5)).1.n[..2], [0, 7 * DAY]);
     // and the change that comes after it makes no attempt
@@ -82,9 +82,9 @@ fn failures_double_the_wait() {
     let image = prepared(image, &[Call::SourceChanged]);
     // a source without a time: TimeFailure alone
     let (effects, lent) = taken(&image, reading(None, Some(4), 2 * HOUR));
-    assert_eq!((effects, &lent.n[..2]), (vec![Emit(Event::TimeFailure)], &[1, MINUTE][..]));
+    assert_eq!((effects, &lent.n[..2]), (vec![Emit(EventId::TimeFailure)], &[1, MINUTE][..]));
     let (effects, _) = taken(&image, reading(Some(9 * DAY), Some(0), 2 * HOUR));
-    assert_eq!(effects, [Emit(Event::TimeFailure)]);
+    assert_eq!(effects, [Emit(EventId::TimeFailure)]);
 }
 
 #[test]
@@ -150,13 +150,13 @@ fn an_equal_reading_is_applied() {
 #[test]
 fn each_event_has_its_own_hour() {
     let (effects, mut lent) = taken(&sourced(HOUR), reading(None, Some(4), 0));
-    assert_eq!(effects, [Emit(Event::TimeFailure)]);
+    assert_eq!(effects, [Emit(EventId::TimeFailure)]);
     // the hours began at 0 and at 1 second
     for (seconds, event) in [
-        (1, Some(Event::MissingTrustedTimeSource)),
+        (1, Some(EventId::MissingTrustedTimeSource)),
         (3_599, None),
-        (3_600, Some(Event::TimeFailure)),
-        (3_601, Some(Event::MissingTrustedTimeSource)),
+        (3_600, Some(EventId::TimeFailure)),
+        (3_601, Some(EventId::MissingTrustedTimeSource)),
         (7_199, None),
     ] {
         let (effects, next) = taken(&lent.image, failure(seconds * SECOND));
@@ -167,7 +167,7 @@ fn each_event_has_its_own_hour() {
 
 #[test]
 fn an_applied_time_keeps_the_hours() {
-    let both = [Emit(Event::MissingTrustedTimeSource), Emit(Event::TimeFailure)];
+    let both = [Emit(EventId::MissingTrustedTimeSource), Emit(EventId::TimeFailure)];
     let (effects, failed) = taken(&sourced(HOUR), failure(0));
     assert_eq!(effects, both);
     let (effects, applied) = taken(&failed.image, reading(Some(7 * DAY + 1), Some(4), 60 * SECOND));

@@ -4,19 +4,19 @@ mod common;
 
 use common::reference::image::{word, CLOCK, GENERATION, TABLE, WINDOW_COUNT, ZONE_COUNT};
 use common::{busy, made, taken, windows, zones, Call, Lent, Library, DAY};
-use timesync::{Attribute, Effect, Effects, Event};
+use timesync::{AttributeId, EffectCode, EffectCodes, EventId};
 
-use Effect::{Emit, RemoveMoment, RemoveRecord, RemoveSource, Report, StoreMoment, StoreRecord, StoreSource, WakeClient, WakeTimer};
+use EffectCode::{Emit, RemoveMoment, RemoveRecord, RemoveSource, Report, StoreMoment, StoreRecord, StoreSource, WakeClient, WakeTimer};
 
 /// How many zones and windows the image has, and its generation.
 fn numbers(image: &[u8]) -> (u8, u8, u64) {
     (image[ZONE_COUNT], image[WINDOW_COUNT], word(image, GENERATION, 4))
 }
 
-const UTC: [Effect; 3] = [
-    Report(Attribute::UTCTime),
-    Report(Attribute::Granularity),
-    Report(Attribute::TimeSource),
+const UTC: [EffectCode; 3] = [
+    Report(AttributeId::UTCTime),
+    Report(AttributeId::Granularity),
+    Report(AttributeId::TimeSource),
 ];
 
 #[test]
@@ -41,7 +41,7 @@ fn set_utc_time() {
 #[test]
 fn set_trusted_time_source() {
     let set = |fab_idx, named, node_id, endpoint| Call::SetTrustedTimeSource(fab_idx, named, node_id, endpoint);
-    let changed = Report(Attribute::TrustedTimeSource);
+    let changed = Report(AttributeId::TrustedTimeSource);
     let (effects, none) = taken(&made(None), set(1, 0, 5, 6));
     assert_eq!(effects, [WakeClient]);
     let (effects, lent) = taken(&none.image, set(1, 1, 5, 6));
@@ -52,7 +52,10 @@ fn set_trusted_time_source() {
     }
     // another fabric may clear it
     let (effects, cleared) = taken(&lent.image, set(3, 0, 5, 6));
-    assert_eq!(effects, [changed, Emit(Event::MissingTrustedTimeSource), RemoveSource, WakeClient]);
+    assert_eq!(
+        effects,
+        [changed, Emit(EventId::MissingTrustedTimeSource), RemoveSource, WakeClient]
+    );
     assert!(cleared.image == none.image);
 }
 
@@ -62,7 +65,12 @@ fn set_time_zone() {
     let (effects, lent) = taken(&image, Call::SetTimeZone(zones(&[(60, 0, Some("a"))])));
     assert_eq!(
         effects,
-        [WakeTimer, StoreRecord, Report(Attribute::TimeZone), Report(Attribute::DSTOffset)]
+        [
+            WakeTimer,
+            StoreRecord,
+            Report(AttributeId::TimeZone),
+            Report(AttributeId::DSTOffset)
+        ]
     );
     let record = [zones(&[(60, 0, Some("a"))]), windows(&[])].concat();
     assert_eq!(lent.n[0], record.len() as u64);
@@ -75,7 +83,7 @@ fn set_time_zone() {
 fn set_dst_offset() {
     let image = busy();
     let (effects, lent) = taken(&image, Call::SetDstOffset(windows(&[(60, 1, Some(2)), (61, 2, None)])));
-    assert_eq!(effects, [WakeTimer, StoreRecord, Report(Attribute::DSTOffset)]);
+    assert_eq!(effects, [WakeTimer, StoreRecord, Report(AttributeId::DSTOffset)]);
     // the zones of the record are those of the image
     let (_, record) = taken(&lent.image, Call::Record);
     assert_eq!(lent.n[0], record.n[0]);
@@ -85,7 +93,7 @@ fn set_dst_offset() {
     let mut refused = Lent::new(&image, 962);
     let returned = Library::new().held(&Call::SetDstOffset(windows(&[(0, 5, Some(5))])), &mut refused);
     assert_eq!(returned, 0x3002);
-    assert_eq!(Effects::from_returned(returned).collect::<Vec<_>>(), [WakeTimer]);
+    assert_eq!(EffectCodes::from_returned(returned).collect::<Vec<_>>(), [WakeTimer]);
     assert_eq!(numbers(&refused.image), (3, 0, numbers(&image).2 + 1));
 }
 

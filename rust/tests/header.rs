@@ -7,7 +7,7 @@ use std::fmt::Debug;
 
 use common::reference::image::{put_windows, put_zones};
 use common::{full, made, prepared, window, windows, zone, zones, Call, Lent, Library, DAY};
-use timesync::{entry, Attribute, Effect, Event, ListStore, Refusal, TimeGranularity, TimeSource};
+use timesync::{entry, AttributeId, EffectCode, EventId, Limits, Refusal, TimeGranularity, TimeSource};
 use timesync::{IMAGE_SIZE, MOMENTS_MAX, RECORD_MAX, TIME_ZONE_NAME_MAX};
 
 const HEADERS: [&str; 2] = [
@@ -318,21 +318,24 @@ fn numbers_of<T: Copy + Debug>(all: &[T], number: fn(T) -> u8) -> Numbers {
 fn the_numbers_of_the_crate() {
     assert_eq!(under("GRANULARITY_"), numbers_of(TimeGranularity::ALL, TimeGranularity::number));
     assert_eq!(under("SOURCE_"), numbers_of(TimeSource::ALL, TimeSource::number));
-    assert_eq!(under("ATTRIBUTE_"), numbers_of(Attribute::ALL, Attribute::number));
-    assert_eq!(under("EVENT_"), numbers_of(Event::ALL, Event::number));
-    let all: Vec<Effect> = (0..=255).filter_map(Effect::from_code).collect();
+    assert_eq!(under("ATTRIBUTE_"), numbers_of(AttributeId::ALL, AttributeId::number));
+    assert_eq!(under("EVENT_"), numbers_of(EventId::ALL, EventId::number));
+    let all: Vec<EffectCode> = (0..=255).filter_map(EffectCode::from_code).collect();
     let codes = effects().into_iter().map(|(name, code)| (plain(name), code)).collect::<Numbers>();
-    assert_eq!(numbers_of(&all, Effect::code), codes);
+    assert_eq!(numbers_of(&all, EffectCode::code), codes);
     let refused = answers().into_iter().skip(1).map(|(name, number)| (plain(name), number));
     assert_eq!(numbers_of(Refusal::ALL, Refusal::number), refused.collect());
-    let ListStore { zone_limit, window_limit } = ListStore::LARGEST;
+    let Limits {
+        time_zone_max,
+        dst_offset_max,
+    } = Limits::LARGEST;
     let constants = [
         ("IMAGE_SIZE", IMAGE_SIZE),
         ("NAME_MAX", TIME_ZONE_NAME_MAX),
         ("RECORD_MAX", RECORD_MAX),
         ("MOMENTS_MAX", 8 * MOMENTS_MAX),
-        ("ZONES_MAX", zone_limit),
-        ("WINDOWS_MAX", window_limit),
+        ("ZONES_MAX", time_zone_max),
+        ("WINDOWS_MAX", dst_offset_max),
     ];
     assert_eq!(sizes(), constants.map(|(name, n)| (name, n as u64)));
 }

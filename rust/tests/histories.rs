@@ -3,7 +3,7 @@
 mod common;
 
 use common::{reference, windows, zones, Guarded, Random, DAY};
-use timesync::{entry, replay, ListStore, Refusal, Replayed, RECORD_MAX};
+use timesync::{entry, replay, Limits, Refusal, Replayed, RECORD_MAX};
 
 /// A history, and the moments that it is walked from and looked at.
 #[derive(Debug, Clone, Copy)]
@@ -241,7 +241,7 @@ fn many_calls() {
 /// What a history leaves, and the record.
 fn ran(calls: &[Vec<u8>], at: u64) -> Result<(Replayed, Vec<u8>), Refusal> {
     let mut out = [0; RECORD_MAX];
-    let replayed = replay(ListStore::LARGEST, &calls.concat(), 0, at, &mut out)?;
+    let replayed = replay(Limits::LARGEST, &calls.concat(), 0, at, &mut out)?;
     Ok((replayed, out[..replayed.record_len].to_vec()))
 }
 
@@ -274,8 +274,7 @@ fn what_is_looked_up() {
     ] {
         let (replayed, _) = ran(&calls, at).unwrap();
         let (offset, name) = replayed.time_zone;
-        assert_eq!((offset, name.is_some()), (zone, named), "{at}");
-        assert!(name.map_or(true, |n| n.as_str() == Ok("Europe/Berlin")), "{at}");
+        assert_eq!((offset, name.as_deref()), (zone, named.then_some("Europe/Berlin")), "{at}");
         assert_eq!(
             (replayed.dst_offset, replayed.dst_usable, replayed.next_transition),
             (window, usable, next),
@@ -291,10 +290,10 @@ fn what_is_looked_up() {
 #[test]
 fn refusals() {
     assert_eq!(ran(&[vec![5]], 0).err(), Some(Refusal::Unreadable));
-    let none = ListStore {
-        zone_limit: 0,
-        window_limit: 1,
+    let none = Limits {
+        time_zone_max: 0,
+        dst_offset_max: 1,
     };
     assert_eq!(replay(none, &[], 0, 0, &mut []).err(), Some(Refusal::BadLimits));
-    assert_eq!(replay(ListStore::DEVICE, &[], 0, 0, &mut []).err(), Some(Refusal::NoSpace));
+    assert_eq!(replay(Limits::DEVICE, &[], 0, 0, &mut []).err(), Some(Refusal::NoSpace));
 }

@@ -3,8 +3,8 @@
 mod common;
 
 use common::{made, prepared, taken, windows, zones, Call, Lent, Library, DAY};
-use timesync::Effect::Emit;
-use timesync::Event;
+use timesync::EffectCode::Emit;
+use timesync::EventId;
 
 /// Sets the clock to the moment 0 at the tick 0: from then on a tick is its moment.
 fn at_zero() -> Call {
@@ -52,7 +52,7 @@ fn first_looks() {
     let (effects, first) = taken(&image, day(1));
     assert_eq!((effects, first.n), (vec![], [0, 0, 0, 2, 9 * DAY + 100_000]));
     let (effects, active) = taken(&image, day(10));
-    assert_eq!(effects, [Emit(Event::DSTStatus)]);
+    assert_eq!(effects, [Emit(EventId::DSTStatus)]);
     assert_eq!(active.n, [0, 0, 1, 2, 10 * DAY + 100_000]);
     // no list store
     assert_eq!(taken(&prepared(made(None), &[at_zero()]), day(1)).1.n, [0, 0, 0, 0, 0]);
@@ -65,16 +65,19 @@ fn looks_one_after_the_other() {
     assert_eq!(taken(&active.image, day(10)).0, []);
     // the window ends; another one is still to come
     let (effects, ended) = taken(&active.image, day(20));
-    assert_eq!((effects, ended.n), (vec![Emit(Event::DSTStatus)], [0, 0, 0, 2, 10 * DAY + 100_000]));
+    assert_eq!(
+        (effects, ended.n),
+        (vec![Emit(EventId::DSTStatus)], [0, 0, 0, 2, 10 * DAY + 100_000])
+    );
     // a zone with no name
     let (effects, zone) = taken(&ended.image, day(30));
-    assert_eq!((effects, zone.offset), (vec![Emit(Event::TimeZoneStatus)], 7200));
+    assert_eq!((effects, zone.offset), (vec![Emit(EventId::TimeZoneStatus)], 7200));
     assert_eq!(zone.n, [0, 0, 0, 2, 10 * DAY + 100_000]);
     assert!(zone.out.iter().all(|b| *b == 0xA5));
     // everything at once: the zone changes, the window ends and none is usable
     let (_, inside) = taken(&zone.image, day(40));
     let (effects, last) = taken(&inside.image, day(60));
-    let all = [Event::TimeZoneStatus, Event::DSTStatus, Event::DSTTableEmpty];
+    let all = [EventId::TimeZoneStatus, EventId::DSTStatus, EventId::DSTTableEmpty];
     assert_eq!(effects, all.map(Emit));
     assert_eq!((last.offset, last.n), (-3600, [1, 1, 0, 1, 0]));
     assert_eq!((last.out[0], last.out[1]), (b'C', 0xA5));
@@ -84,7 +87,7 @@ fn looks_one_after_the_other() {
 fn a_command_empties_the_table() {
     let (_, first) = taken(&prepared(two_windows(), &[at_zero()]), day(1));
     let cleared = prepared(first.image, &[Call::SetTimeZone(three_zones())]);
-    assert_eq!(taken(&cleared, day(1)).0, [Emit(Event::DSTTableEmpty)]);
+    assert_eq!(taken(&cleared, day(1)).0, [Emit(EventId::DSTTableEmpty)]);
 }
 
 #[test]
@@ -101,7 +104,7 @@ fn a_look_on_an_unset_clock_keeps_what_was_seen() {
     let (effects, told) = taken(&prepared(waiting.image, &[at_zero()]), Call::Look(3));
     assert_eq!(
         (effects, told.offset, told.n),
-        (vec![Emit(Event::TimeZoneStatus)], 7200, [1, 1, 0, 1, 0])
+        (vec![Emit(EventId::TimeZoneStatus)], 7200, [1, 1, 0, 1, 0])
     );
     assert_eq!(told.out[..2], [b'B', 0xA5]);
 }
@@ -127,7 +130,7 @@ fn another_name_is_no_event() {
 fn adjacent_windows() {
     let image = listed(&[], &[(3600, 0, Some(10)), (1800, 10, Some(20))]);
     let (effects, first) = taken(&image, Call::Look(5));
-    assert_eq!((effects, first.n), (vec![Emit(Event::DSTStatus)], [0, 0, 1, 2, 100_005]));
+    assert_eq!((effects, first.n), (vec![Emit(EventId::DSTStatus)], [0, 0, 1, 2, 100_005]));
     // another offset, but a window is active as before
     let (effects, second) = taken(&first.image, Call::Look(15));
     assert_eq!((effects, second.n), (vec![], [0, 0, 0, 2, 100_005]));
@@ -142,7 +145,7 @@ fn a_refused_command_empties_the_table_once() {
     assert_eq!(Library::new().held(&Call::SetDstOffset(request), &mut refused), 0x3002);
     // told by the next look, and by no later one
     let (effects, empty) = taken(&refused.image, Call::Look(6));
-    assert_eq!((effects, empty.n), (vec![Emit(Event::DSTTableEmpty)], [0, 0, 0, 1, 0]));
+    assert_eq!((effects, empty.n), (vec![Emit(EventId::DSTTableEmpty)], [0, 0, 0, 1, 0]));
     let (effects, later) = taken(&empty.image, Call::Look(7));
     assert_eq!((effects, later.n), (vec![], [0, 0, 0, 1, 0]));
 }
@@ -170,5 +173,5 @@ fn a_window_inside_the_margin_is_never_seen() {
     assert_eq!((effects, before.n), (vec![], [0, 0, 0, 2, 100_500]));
     // it came and went: it was never seen active
     let (effects, after) = taken(&before.image, Call::Look(101_000));
-    assert_eq!((effects, after.n), (vec![Emit(Event::DSTTableEmpty)], [0, 0, 0, 1, 0]));
+    assert_eq!((effects, after.n), (vec![Emit(EventId::DSTTableEmpty)], [0, 0, 0, 1, 0]));
 }

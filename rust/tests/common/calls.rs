@@ -2,7 +2,7 @@
 
 use super::pages::Guarded;
 use super::reference;
-use timesync::{entry, Effect, Effects};
+use timesync::{entry, EffectCode, EffectCodes};
 
 /// Every entry point that takes an image, with its arguments that are not lent.
 #[derive(Debug, Clone)]
@@ -206,11 +206,11 @@ impl Library {
 }
 
 /// Runs a call that must be taken, holds it to the reference, and answers its effects beside what it left.
-pub fn taken(image: &[u8], call: Call) -> (Vec<Effect>, Lent) {
+pub fn taken(image: &[u8], call: Call) -> (Vec<EffectCode>, Lent) {
     let mut lent = Lent::new(image, 962);
     let returned = Library::new().held(&call, &mut lent);
     assert_eq!(returned & 0xFF, 0, "{call:?}");
-    (Effects::from_returned(returned).collect(), lent)
+    (EffectCodes::from_returned(returned).collect(), lent)
 }
 
 fn first_difference(a: &[u8], b: &[u8]) -> Option<usize> {
