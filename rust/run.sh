@@ -1,10 +1,11 @@
 #!/bin/sh
-# Checks the headers and the crate against libcontroller.a and libreplay.a, which must be there already: in the directory that
+# Checks the headers, the example and the crate against libcontroller.a and libreplay.a, which must be there already: in the directory that
 # TIMESYNC_LIB_DIR names, or else in ../target/staticlib. Prints a line for each part and the stack that each call takes, and ends with a
 # status other than 0 where one fails.
 cd "$(dirname "$0")" || exit 2
 lib=${TIMESYNC_LIB_DIR:-$(pwd)/../target/staticlib}
 include=$(pwd)/../include
+examples=$(pwd)/../examples/c
 CC=${CC:-cc}
 CXX=${CXX:-c++}
 c99="-std=c99 -Wall -Wextra -Werror -pedantic"
@@ -33,8 +34,8 @@ run_c() {
     diff "$work/due" "$work/said"
 }
 
-run_boot() {
-    "$work/boot" >"$work/said" && diff tests/c/boot.txt "$work/said"
+run_example() {
+    "$work/controller" >"$work/said" && diff "$examples/controller.txt" "$work/said"
 }
 
 # The header names the functions that the archive needs from elsewhere
@@ -62,13 +63,26 @@ measured_all() {
     sed -n 's/^ *[0-9][0-9]*  \([a-z_]*\).*/\1/p' "$work/stack.txt" | sort | diff "$work/due" -
 }
 
-# No call takes more stack than the header says of it, and the header says it of every call; of the replay it says nothing
+# docs/PERFORMANCE.md names every call, and no call takes more stack than it says there: a row has names, their bytes and their bound
 told_stack() {
-    sed -n 's/^ \* *\([0-9][0-9]*\)  \([a-z_]*\)$/\1 \2/p' "$include/timesync.h" >"$work/told"
-    awk 'FILENAME == ARGV[1] { told[$2] = $1; next }
-         $2 != "replay" && !($2 in told) { print $2 ": the header says nothing, it takes " $1; bad = 1 }
-         $2 in told && $1 > told[$2] { print $2 ": the header says " told[$2] ", it takes " $1; bad = 1 }
+    sed -n '/^## Stack$/,/^## /s/^| \(`.*`\) | \([0-9,]*\) | .*/\2 \1/p' ../docs/PERFORMANCE.md | tr -d ',`' >"$work/told"
+    awk 'FILENAME == ARGV[1] { for (i = 2; i <= NF; i++) told[$i] = $1; next }
+         !($2 in told) { print $2 ": the table does not name it, it takes " $1; bad = 1 }
+         $2 in told && $1 > told[$2] { print $2 ": the table says " told[$2] ", it takes " $1; bad = 1 }
          END { exit bad }' "$work/told" "$work/stack.txt"
+}
+
+# The header's two bounds are those that the calls are held to
+told_bounds() {
+    sed -n 's/^#define MOST_\(RECORD\|OTHER\) \([0-9]*\)u$/\2/p' tests/c/stack.c | xargs >"$work/due"
+    sed -n 's/.* at most \([0-9]*\) bytes of stack, any other at most \([0-9]*\);.*/\1 \2/p' "$include/timesync.h" | diff "$work/due" -
+}
+
+# The crate cannot be built, and what cargo says has these words
+told_why() {
+    words=$1
+    shift
+    ! "$@" cargo build --offline --target-dir "$work/refused" >"$work/said" 2>&1 && cat "$work/said" && grep -q "$words" "$work/said"
 }
 
 for archive in libcontroller.a libreplay.a; do
@@ -85,15 +99,20 @@ for header in timesync.h timesync_replay.h; do
         part "$header, C++" "$CXX" -std=c++11 -Wall -Wextra -Werror -pedantic -fsyntax-only -x c++ "$include/$header"
     fi
 done
-part "C program, compiled" "$CC" $c99 -O1 -I "$include" tests/c/main.c "$lib/libcontroller.a" -o "$work/main"
+part "C program, compiled" "$CC" $c99 -O1 -I "$include" -I "$examples" tests/c/main.c "$lib/libcontroller.a" -o "$work/main"
 part "C program, run" run_c
-part "boot, compiled" "$CC" $c99 -O1 -I "$include" tests/c/boot.c "$lib/libcontroller.a" -o "$work/boot"
-part "boot, run" run_boot
-part "stack, compiled" "$CC" $c99 -O1 -I "$include" tests/c/stack.c "$lib/libcontroller.a" "$lib/libreplay.a" -Wl,-z,now -o "$work/stack"
+part "example, compiled" "$CC" $c99 -O1 -I "$include" "$examples/controller.c" "$lib/libcontroller.a" -o "$work/controller"
+part "example, run" run_example
+part "stack, compiled" "$CC" $c99 -O1 -I "$include" -I "$examples" tests/c/stack.c "$lib/libcontroller.a" "$lib/libreplay.a" -Wl,-z,now \
+    -o "$work/stack"
 part "stack of each call, within its bound" run_stack
 sed 's/^/        /' "$work/stack.txt"
 part "stack of every call" measured_all
-part "stack, as the header says" told_stack
+part "stack, as the table says" told_stack
+part "stack, as the header says" told_bounds
 part "crate, built as firmware has it" cargo build --offline --quiet
+part "crate, another target named" told_why "x86-64 Linux, and cannot be built for aarch64-unknown-linux-gnu" \
+    env CARGO_BUILD_TARGET=aarch64-unknown-linux-gnu
+part "crate, a missing archive named" told_why "there is no $work/libcontroller.a: build it with" env TIMESYNC_LIB_DIR="$work"
 part "crate, tests" cargo test --offline --quiet --features replay
 exit $failed

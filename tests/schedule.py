@@ -1,13 +1,19 @@
 #!/usr/bin/env python3
-"""Runs the program `schedule` at every edge and on many records made by chance, and compares what it prints, byte for byte.
+"""Runs the program `schedule` at every edge and on many records made by chance, and compares what it prints, byte for byte; then with
+standard input and output that are closed, unreadable, full or cut.
 
 What is expected comes from the readers and rules of tests/vectors.py and a walk written here, never from a run of the port.
 Usage: tests/schedule.py, once `rt check schedule` has built target/bin/schedule."""
+import os
 import pathlib
 import random
+import re
+import resource
+import signal
 import struct
 import subprocess
 import sys
+import tempfile
 
 from vectors import TOP, ends, entries, read_window, read_zone, section, some_windows, some_zones, window, windows_answer, zone, zones_answer
 
@@ -107,18 +113,92 @@ def by_chance(source, count):
         yield given if source.randrange(8) else given[:-1]
 
 
+EXAMPLE = at(500, [zone(3600, 0), zone(7200, 2000)], [window(3600, 1000, 2000)])
+
+# input that is closed, a directory and empty; output that is closed and full; both closed: a shell's words, and the text that comes
+REDIRECTIONS = (("<&-", REFUSED), ("</", REFUSED), ("</dev/null", REFUSED), (">&-", ""), (">/dev/full", ""), ("<&- >&-", ""))
+
+
+def whole(text):
+    """Whether a text is not cut: its last line, with its line feed, is one of the two that end every text."""
+    return re.search(r"^(steps \d+|refused 7)\n\Z", text, re.MULTILINE) is not None
+
+
+def seen(ran, printed):
+    return printed.decode("ascii", "replace"), ran.returncode
+
+
+def redirected(how):
+    """Runs the program on EXAMPLE with a shell's redirection; the text has what it writes to standard error too."""
+    ran = subprocess.run(["sh", "-c", f'exec "$0" {how}', PROGRAM], input=EXAMPLE, stdout=subprocess.PIPE, stderr=subprocess.STDOUT,
+                         check=False)
+    return seen(ran, ran.stdout)
+
+
+def limited(given, room):
+    """Runs the program with a file for its text that is full after so many bytes."""
+    with tempfile.TemporaryFile() as file:
+        ran = subprocess.run([PROGRAM], input=given, stdout=file, check=False, restore_signals=False,
+                             preexec_fn=lambda: resource.setrlimit(resource.RLIMIT_FSIZE, (room, room)))
+        file.seek(0)
+        return seen(ran, file.read())
+
+
+def without_reader(restored):
+    """Runs the program on EXAMPLE with a pipe that nobody reads, where SIGPIPE is what it is by default, or else ignored."""
+    reading, writing = os.pipe()
+    os.close(reading)
+    ran = subprocess.run([PROGRAM], input=EXAMPLE, stdout=writing, check=False, restore_signals=restored)
+    os.close(writing)
+    return seen(ran, b"")
+
+
+def cut(given):
+    """A file of each size: the text as far as there is room, and only the whole one ends as a whole one."""
+    text = expected(given)
+    for room in range(len(text) + 1):
+        printed, status = limited(given, room)
+        yield f"room for {room} bytes", (printed, status, whole(printed)), (text[:room], 0, room == len(text))
+
+
+def streams():
+    """What is done with standard input and output, what then comes, and what is due: the text and the status."""
+    yield from ((how, redirected(how), (text, 0)) for how, text in REDIRECTIONS)
+    yield "no reader", without_reader(True), ("", -signal.SIGPIPE)
+    yield "no reader, SIGPIPE ignored", without_reader(False), ("", 0)
+    yield from cut(EXAMPLE)
+    yield from cut(b"")
+
+
+def texts_differ(inputs, texts):
+    for given, text in zip(inputs, texts):
+        ran = subprocess.run([PROGRAM], input=given, stdout=subprocess.PIPE, check=False)
+        printed, status = seen(ran, ran.stdout)
+        if (printed, status) != (text, 0):
+            print(f"schedule: on {given.hex()}\nexpected:\n{text}printed, with status {status}:\n{printed}")
+            return True
+    return False
+
+
+def streams_differ(ways):
+    for how, came, due in ways:
+        if came != due:
+            print(f"schedule: {how}\nexpected: {due}\ncame:     {came}")
+            return True
+    return False
+
+
 def main():
-    inputs = [at(500, [zone(3600, 0), zone(7200, 2000)], [window(3600, 1000, 2000)])]
+    inputs = [EXAMPLE]
     for some in (lengths(), extremes(), refusals(), by_chance(random.Random(1), 2000)):
         inputs += some
     texts = [expected(given) for given in inputs]
     assert len(full(0)) == LONGEST and expected(full(0)).endswith("\nsteps 39\n")
-    for given, text in zip(inputs, texts):
-        ran = subprocess.run([PROGRAM], input=given, stdout=subprocess.PIPE, check=False)
-        if ran.returncode != 0 or ran.stdout.decode("ascii", "replace") != text:
-            print(f"schedule: on {given.hex()}\nexpected:\n{text}printed, with status {ran.returncode}:\n{ran.stdout.decode('ascii', 'replace')}")
-            return 1
-    print(f"schedule: {len(inputs)} inputs as expected, {sum(text == REFUSED for text in texts)} of them refused")
+    ways = list(streams())
+    if texts_differ(inputs, texts) or streams_differ(ways):
+        return 1
+    refused = sum(text == REFUSED for text in texts)
+    print(f"schedule: {len(inputs)} inputs as expected, {refused} of them refused; {len(ways)} streams as expected")
     return 0
 
 
