@@ -4,323 +4,136 @@
 The text is turned into a record, the proved program `schedule` walks it from change to change, and
 what it answers is shown to a person. `--help` says all."""
 import argparse
+import locale
 import os
 import pathlib
-import re
-import shutil
 import struct
-import subprocess
 import sys
-import textwrap
 import time
-from typing import NamedTuple, Optional
 
 sys.dont_write_bytecode = True
-from lists import (DAY, MOST_NAME, MOST_WINDOWS, MOST_ZONES, SECOND, TOP, Stop, Wrong, clock_text, load,  # noqa: E402
-                   local_text, offset_text, plain, read_lists, read_moment, record_bytes, utc_text, weekday_text)
+from lists import Stop, load, record_bytes  # noqa: E402
+from program import agree, ask_program, read_answer  # noqa: E402
+from rules import DEVICE, LARGEST, read_limits, read_lists  # noqa: E402
+from shown import ARROW, NO_SUMMER_TIME, View, page_of, show  # noqa: E402
+from words import EXAMPLE, MINUTE, MOST_NAME, SECOND, TOP, Wrong, read_moment, utc_text  # noqa: E402
 
 HERE = pathlib.Path(__file__).resolve().parent
-ROOT = HERE.parent
-PROGRAM = ROOT / "target" / "bin" / "schedule"
-WIDTH = 100
-
-
-class Row(NamedTuple):
-    """A line of the program's answer."""
-
-    moment: int
-    zone: int
-    dst: Optional[int]  # the active window's offset; None: no window is active
-    usable: bool
-
-
-# ## The program
-
-
-def run(command, **options):
-    try:
-        return subprocess.run(command, cwd=ROOT, check=False, stdout=subprocess.PIPE, **options)
-    except (OSError, subprocess.SubprocessError) as error:
-        raise Stop(3, f"changes: {command[0]} cannot be run: {error}") from None
-
-
-def ask_program(given):
-    """What the program `schedule` writes on the bytes that it is given, once it is proved and built."""
-    if shutil.which("rt") is None:
-        raise Stop(3, "changes: rt is not found on PATH; it is needed to prove and build the program")
-    print("changes: rt check schedule (the first time it proves some crates, which takes minutes) ...",
-          file=sys.stderr, flush=True)
-    built = run(["rt", "check", "schedule"], stdin=subprocess.DEVNULL, stderr=subprocess.STDOUT)
-    if built.returncode != 0:
-        text = built.stdout.decode("utf-8", "replace").rstrip()
-        raise Stop(3, f"{text}\nchanges: rt check schedule failed with status {built.returncode}")
-    answer = run([str(PROGRAM)], input=given, timeout=60)
-    if answer.returncode != 0:
-        raise Stop(3, f"changes: {PROGRAM} ended with status {answer.returncode}")
-    return answer.stdout.decode("ascii", "replace")
-
-
-ROW = re.compile(r"([0-9]{1,20}) (-?[0-9]{1,10}) (-|-?[0-9]{1,10}) (yes|no)")
-
-
-def read_answer(text):
-    """The rows of the program's answer."""
-    lines = text.split("\n")
-    if lines == ["refused 7", ""]:
-        raise Stop(1, "changes: the program refuses these lists (refused 7); no wrong line was found")
-    found = [ROW.fullmatch(line) for line in lines[1:-2]]
-    rows = [Row(int(f[1]), int(f[2]), None if f[3] == "-" else int(f[3]), f[4] == "yes")
-            for f in found if f]
-    whole = ["moment zone dst usable"] + lines[1:-2] + [f"steps {len(rows) - 1}", ""]
-    if not rows or not all(found) or lines != whole:
-        raise Stop(3, f"changes: the program answered something else than a walk:\n{text}")
-    return rows
-
-
-# ## What the lists add to a row: names, and until when
-
-
-def zone_at(zones, moment):
-    return [zone for zone in zones if zone.start <= moment][-1]
-
-
-def window_at(windows, moment):
-    active = [w for w in windows if w.start <= moment and (w.end is None or moment < w.end)]
-    return active[0] if active else None
-
-
-def agree(zones, windows, start, rows):
-    """Stops where the rows are not of these lists from this moment: nothing wrong is to be shown."""
-    moments = [row.moment for row in rows]
-    good = moments[0] == start and moments == sorted(set(moments))
-    for row in rows:
-        window = window_at(windows, row.moment)
-        usable = any(w.end is None or row.moment < w.end for w in windows)
-        expected = (zone_at(zones, row.moment).offset, window and window.offset, usable)
-        good = good and (row.zone, row.dst, row.usable) == expected
-    if not good:
-        raise Stop(3, "changes: the program's answer does not fit the lists, so it is not shown")
-
-
-# ## What is shown
-
-
-def duration_text(micros):
-    units = (DAY, "d"), (3600 * SECOND, "h"), (60 * SECOND, "min"), (SECOND, "s"), (1, "µs")
-    parts = []
-    for unit, name in units:
-        count, micros = divmod(micros, unit)
-        parts += [f"{count} {name}"] if count else []
-    return " ".join(parts)
-
-
-def offset_of(row):
-    return row.zone + (row.dst or 0)
-
-
-def local_moment(row):
-    """What panels show: None where no window is usable; held at both ends of 64 bits."""
-    return min(max(row.moment + offset_of(row) * SECOND, 0), TOP) if row.usable else None
-
-
-def zone_text(zone):
-    name = ", without a name" if zone.name is None else f' "{plain(zone.name)}"'
-    return offset_text(zone.offset) + name
-
-
-def state_text(windows, row):
-    if not windows:
-        return "no windows were sent: panels show NO local time until the administrator sends some"
-    if not row.usable:
-        return ("the table has run out: "
-                "panels show NO local time until the administrator sends new windows")
-    window = window_at(windows, row.moment)
-    if window is None:
-        start = min(w.start for w in windows if w.start > row.moment)
-        none_yet = " (none has started yet)" if start == windows[0].start else ""
-        return f"between windows{none_yet}: the next starts {utc_text(start)}"
-    shift = f" of {offset_text(window.offset)}" if window.offset else " that does not shift the clock"
-    until = ", open: it has no end" if window.end is None else f", until {utc_text(window.end)}"
-    return f"inside a window{shift}{until}"
-
-
-def change_text(before, after):
-    """What happens to the clock, from the local times before and after."""
-    if before is None or after is None:
-        return "still no local time" if before is None else "local time stops"
-    if before == after:
-        return "no change of the clock"
-    way = "forward" if after > before else "back"
-    return f"clocks go {way} {duration_text(abs(after - before))}"
-
-
-def local_cell(before, after):
-    """The local time, with the one before it where the clock changes."""
-    if after is None:
-        return "none"
-    if before is None or before == after:
-        return local_text(after)
-    days = abs(after // DAY - before // DAY)
-    short = clock_text(after) if days == 0 else f"{weekday_text(after)} {clock_text(after)}"
-    return f"{local_text(before)} → {short if days <= 1 else local_text(after)}"
-
-
-def cells(before_row, row):
-    """A row of the table; `before_row` is None for the first."""
-    after = local_moment(row)
-    before = before_row and local_moment(before_row._replace(moment=row.moment))
-    offset = offset_text(offset_of(row)) if row.usable else "-"
-    summer = ("yes" if (row.dst or 0) > 0 else "no") if row.usable else "-"
-    change = change_text(before, after) if before_row else "(the starting moment)"
-    return utc_text(row.moment), local_cell(before, after), offset, summer, change
-
-
-def details(zones, windows, row, first):
-    """The lines under a row: a new zone, the state, and a local time that is held."""
-    zone = zone_at(zones, row.moment)
-    told = [f"zone changes to {zone_text(zone)}"] if zone.start == row.moment and not first else []
-    told.append(state_text(windows, row))
-    if row.usable and local_moment(row) != row.moment + offset_of(row) * SECOND:
-        end = "the beginning" if local_moment(row) == 0 else "the last moment that fits"
-        told.append(f"local time is held at {end}")
-    return told
-
-
-HEAD = ("UTC", "local time", "offset", "summer", "what changes")
-
-
-def wrapped(text, indent=""):
-    """The lines of a text; those after the first stand further in."""
-    return textwrap.wrap(text, WIDTH, initial_indent=indent, subsequent_indent=indent + "  ")
-
-
-def table(zones, windows, rows):
-    """A row for each moment with its details under it; a line for each cell where rows are too wide."""
-    body = [cells(before, row) for before, row in zip([None] + rows, rows)]
-    widths = [max(map(len, column)) for column in zip(HEAD, *body)]
-    fits = sum(widths) + 2 * (len(HEAD) - 1) <= WIDTH
-
-    def line(row_cells):
-        return "  ".join(cell.ljust(width) for cell, width in zip(row_cells, widths)).rstrip()
-
-    lines = [line(HEAD)] if fits else []
-    for index, (row, row_cells) in enumerate(zip(rows, body)):
-        apart = [row_cells[0]] + [f"    {h}: {c}" for h, c in zip(HEAD[1:], row_cells[1:])]
-        lines += [line(row_cells)] if fits else apart
-        for text in details(zones, windows, row, index == 0):
-            lines += wrapped(text, "    ")
-    return lines
-
-
-def summary(windows, rows):
-    coming = len(rows) - 1
-    text = "1 change is coming; " if coming == 1 else f"{coming or 'No'} changes are coming; "
-    stopped = [row for row in rows if not row.usable]
-    if not windows:
-        return text + "no windows were sent: send some."
-    if not stopped:
-        return text + "the table never runs out: its last window is open."
-    if stopped[0] is rows[0]:
-        return text + f"the table has run out, at {utc_text(windows[-1].end)}: send new windows."
-    return text + f"the table runs out at {utc_text(stopped[0].moment)}: send new windows before then."
-
-
-def counted(things, name):
-    return f"{len(things) or 'no'} {name}{'' if len(things) == 1 else 's'}"
-
-
-def show(name, zones, windows, rows, how):
-    """The whole text for a person; `how` says where the starting moment comes from."""
-    local = local_moment(rows[0])
-    shows = "there is no local time: panels show none"
-    if local is not None:
-        shows = f"a correctly set clock shows {local_text(local)}"
-    lines = [f"{name}: {counted(zones, 'zone')}, {counted(windows, 'window')}"]
-    lines += wrapped(f"At {utc_text(rows[0].moment)} ({how}) {shows}.")
-    lines += wrapped(f"Zone {zone_text(zone_at(zones, rows[0].moment))}")
-    lines += [""] + table(zones, windows, rows) + [""] + wrapped(summary(windows, rows))
-    return "\n".join(lines) + "\n"
-
-
-# ## The command
+BEGINNING = 946_684_800  # seconds from 1970, where a machine's clock begins, to 2000, where a controller's does
 
 HELP = f"""\
-the file, one entry to a line; # starts a comment, empty lines count for nothing:
+the file, one entry to a line; # starts a comment, empty lines do not count:
 
   zone   OFFSET  from MOMENT  "NAME"         the zone's name may be left out
   window OFFSET  from MOMENT  to MOMENT
 
-  OFFSET  with its sign: +01:00, -03:30, +00:19:32, or in seconds: +3600s. A zone's is added to UTC,
-          and lies from -12:00 to +14:00. A window's is added to the zone's while the window lasts;
-          +01:00 is the usual summer time, and any number that 32 bits hold is taken.
-  MOMENT  in UTC, with Z: 2026-03-29T01:00Z. Seconds may follow, 2026-03-29T01:00:30Z, and up to six
-          digits of a fraction, 2026-03-29T01:00:30.5Z. The year is 2000 or later; above 9999 it has
-          a plus sign, as {utc_text(TOP)}, the last moment that fits.
+  OFFSET  with its sign: +01:00, -03:30, +00:19:32, or in seconds: +3600s.
+          A zone's is added to UTC, and lies from -12:00 to +14:00. A window's
+          is added to the zone's while the window lasts: +01:00 sets clocks one
+          hour forward. Any number that 32 bits hold is taken.
+  MOMENT  in UTC, with T and Z: {EXAMPLE}. Seconds may follow,
+          2026-03-29T01:00:30Z, and up to six digits of a fraction,
+          2026-03-29T01:00:30.5Z. The year is 2000 or later; above 9999 it has a
+          plus sign, as {utc_text(TOP)}, the last that fits.
           from beginning   is from 2000-01-01T00:00Z
           to open          is a window without an end
-  NAME    in straight double quotes, at most {MOST_NAME} bytes of UTF-8, without a quote, a tab or another
-          control character. A zone named "" is not the same as one without a name.
+  NAME    in straight double quotes, at most {MOST_NAME} bytes of UTF-8, without a quote,
+          a tab or another control character. A zone named "" is not the same as
+          one without a name.
+
+a school without summer time:
+  Where no window is usable a panel shows nothing. So such a school sends one
+  window that is open and does not shift the clock:
+  {NO_SUMMER_TIME}
 
 rules of the lists:
-  1 to {MOST_ZONES} zones. The first counts from the beginning and only it; each later one starts later.
-  A record without zones would mean UTC. Nothing is guessed, so UTC has its line, which means the
-  same:  zone +00:00 from beginning
-  0 to {MOST_WINDOWS} windows, in order of time: each ends after it starts, and starts at or after the end
-  of the one before. Nothing follows an open window.
+  zones     At least one. The first counts from the beginning and only it; each
+            later one starts later. A record without zones would mean UTC.
+            Nothing is guessed, so UTC has its line, which means the same:
+            zone +00:00 from beginning
+  windows   In order of time. Each ends after it starts, and starts at or after
+            the end of the one before. Nothing follows an open window.
+  limits    At most {DEVICE.zones} zones and {DEVICE.windows} windows. A larger unit takes more, at most
+            {LARGEST.zones} zones and {LARGEST.windows} windows: --limits {LARGEST}. A controller tells its limits
+            as TimeZoneListMaxSize and DSTOffsetListMaxSize.
 
-the record, which --record writes and the program reads; numbers are little endian:
-  the count of zones (1 byte); for each its offset in seconds (4 bytes, two's complement), its start
-  (8 bytes, microseconds since 2000-01-01T00:00Z), then 0, or 1 with the name's length (1 byte) and
-  the name in UTF-8
-  the count of windows (1 byte); for each its offset and its start in the same way, then 0 where it
-  is open, or 1 with its end (8 bytes)
-  It is written only where the program accepts it.
+what a controller does with a list that it refuses:
+  zones     (SetTimeZone) It keeps its zones and windows as they are.
+  windows   (SetDSTOffset) It loses the windows that it has: panels show NO
+            local time.
+It answers 3 (ResourceExhausted) where a list is longer than its limit, and
+2 (ConstraintError) where an entry breaks a rule; the first such entry decides.
+Such lists are named here before they are sent, and nothing of them is shown.
+Zones that it takes empty its windows: send the zones first, then the windows.
 
-what is shown: a row for the starting moment and one for each change that is coming, with UTC, the
-local time (before → after where clocks change), the offset from UTC, whether it is summer time,
-and what changes; under it a new zone, and the state, which is one of
+the record, which --record writes and the program reads, little endian:
+  the count of zones (1 byte); for each its offset in seconds (4 bytes, two's
+  complement), its start (8 bytes, microseconds since 2000-01-01T00:00Z), then
+  0, or 1 with the name's length (1 byte) and the name in UTF-8
+  the count of windows (1 byte); for each its offset and its start in the same
+  way, then 0 where it is open, or 1 with its end (8 bytes)
+It is written only where the lists fit the limits and the program takes them.
+
+what is shown: a row for the starting moment and one for each coming change:
+  UTC          the moment
+  local time   before {ARROW} after where clocks change; none where they stop
+  offset       local time less UTC
+  window       the active window's offset; - where no window is active
+  clock        forward or back, and how far; no change; stops; still none
+and under it a new zone, and the state, which is one of
   inside a window    local time is UTC plus the zone's offset and the window's
-  between windows    local time is UTC plus the zone's offset; a window is still to come
-  run out            every window has ended: there is NO local time, and panels show none, until the
-                     administrator sends new windows. It is the same where no windows were sent.
-The walk from change to change is that of the proved program schedule. Each run first has it built
-by `rt check schedule`, which takes minutes the first time and hardly any time after that.
+  between windows    local time is UTC plus the zone's offset; a window is still
+                     to come
+  run out            every window has ended: there is NO local time, and panels
+                     show none, until the administrator sends new windows. It is
+                     the same where no windows were sent.
+A coming moment is told as clocks show it when it comes, before they change.
+
+The walk from change to change is that of the proved program schedule. Each run
+first has it built by `rt check schedule`, which takes minutes the first time
+and hardly any time after that.
 
 exit status:
   0  shown
-  1  the lists are wrong or cannot be read; each wrong line is named as FILE:LINE:
+  1  the lists are wrong, or too long for the limits, or cannot be read; each
+     wrong line is named as FILE:LINE:
   2  bad usage, or OUT cannot be written
   3  the toolchain or the program failed, or is not there
 """
 
 
-def at_moment(word):
-    try:
-        return read_moment(word)
-    except Wrong as wrong:
-        raise argparse.ArgumentTypeError(str(wrong)) from None
+def reader(read):
+    """A reader of words for argparse."""
+    def taken(word):
+        try:
+            return read(word)
+        except Wrong as wrong:
+            raise argparse.ArgumentTypeError(str(wrong)) from None
+    return taken
 
 
-def parser():
+def parser(page):
     made = argparse.ArgumentParser(
-        prog="changes.py", description="Shows a school's coming clock changes.", epilog=HELP,
+        prog="changes.py", description="Shows a school's coming clock changes.", epilog=HELP.replace(ARROW, page.arrow),
         allow_abbrev=False, formatter_class=argparse.RawDescriptionHelpFormatter)
     made.add_argument("file", nargs="?", metavar="FILE",
                       help="the lists; without it those of school/lists.txt")
-    made.add_argument("--at", type=at_moment, metavar="MOMENT",
+    made.add_argument("--at", type=reader(read_moment), metavar="MOMENT",
                       help="the starting moment, as 2026-11-16T08:00Z; without it this machine's clock")
+    made.add_argument("--limits", type=reader(read_limits), default=DEVICE, metavar="ZONES/WINDOWS",
+                      help=f"how many of each the controller takes: 1/1 to {LARGEST}; without it {DEVICE}")
     made.add_argument("--record", metavar="OUT", help="also write the record to the file OUT")
     return made
 
 
 def starting_moment(at):
-    """The starting moment, and where it comes from; a machine's clock is read to the second."""
+    """The starting moment, and where it comes from; a machine's clock is read to the minute, as people read clocks."""
     if at is not None:
         return at, "given with --at"
-    now = (int(time.time()) - 946_684_800) * SECOND
+    now = (int(time.time()) - BEGINNING) * SECOND
     if not 0 <= now <= TOP:
         raise Stop(2, "changes: this machine's clock stands before 2000; give the moment with --at")
-    return now, "now, by this machine's clock"
+    return now - now % MINUTE, "now, by this machine's clock"
 
 
 def write_record(out, path, data):
@@ -335,26 +148,35 @@ def write_record(out, path, data):
     print(f"changes: the record, {len(data)} bytes, is in {out}", file=sys.stderr)
 
 
-def shown(options, ask):
+def text_for(options, page, ask):
     start, how = starting_moment(options.at)
     path = HERE / "lists.txt" if options.file is None else options.file
     name = os.path.relpath(path) if options.file is None else options.file
-    zones, windows = read_lists(load(path, name), name)
+    zones, windows = read_lists(load(path, name), name, options.limits, start)
     record = record_bytes(zones, windows)
     rows = read_answer(ask(struct.pack("<Q", start) + record))
     agree(zones, windows, start, rows)
     if options.record is not None:
         write_record(options.record, path, record)
-    return show(name, zones, windows, rows, how)
+    return show(name, View(zones, windows, rows, page), options.limits, how)
+
+
+def encoding_of(stream):
+    """An output's encoding: where the locale is C, Python takes UTF-8 unasked, but the locale's own counts."""
+    asked = {"PYTHONUTF8", "PYTHONIOENCODING"} & set(os.environ)
+    return locale.nl_langinfo(locale.CODESET) if sys.flags.utf8_mode and not asked else stream.encoding
 
 
 def main(arguments, ask=ask_program):
     """Runs the command; `ask` gives the program's answer to bytes."""
     for stream in (sys.stdout, sys.stderr):
         if hasattr(stream, "reconfigure"):
-            stream.reconfigure(errors="backslashreplace")
+            stream.reconfigure(encoding=encoding_of(stream), errors="backslashreplace")
     try:
-        sys.stdout.write(shown(parser().parse_args(arguments), ask))
+        if sys.stdout is None:
+            raise Stop(3, "changes: standard output is closed, so nothing can be shown")
+        page = page_of(sys.stdout)
+        sys.stdout.write(text_for(parser(page).parse_args(arguments), page, ask))
         sys.stdout.flush()
         return 0
     except Stop as stop:
