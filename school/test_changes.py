@@ -5,6 +5,7 @@ They need no toolchain: a walker in Python stands in for the program `schedule`.
 itself has been built, it is run as well, and held to the walker."""
 import calendar
 import datetime
+import os
 import pathlib
 import random
 import re
@@ -12,6 +13,7 @@ import struct
 import subprocess
 import sys
 import tempfile
+import textwrap
 import unittest
 import unittest.mock
 
@@ -106,6 +108,14 @@ class Command(unittest.TestCase):
     def file(self, text):
         (self.folder / "lists").write_text(text, "utf-8")
         return str(self.folder / "lists")
+
+    def test_the_readme_shows_what_is_shown(self):
+        """README's block has the output from its first to its last line; ... stands for what is left out."""
+        readme = (HERE.parent / "README.md").read_text("utf-8")
+        block = readme.partition(f"`--at {AT}`:\n\n")[2].partition("\n\nThe lists are tested first")[0]
+        front, left_out, back = textwrap.dedent(block).partition("\n...\n")
+        out = command("--at", AT)[1].replace(os.path.relpath(SHIPPED), "school/lists.txt")
+        self.assertTrue(left_out and out.startswith(front + "\n") and out.endswith("\n" + back + "\n"))
 
     def test_the_machines_clock(self):
         status, out, _ = command()

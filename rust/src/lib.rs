@@ -60,6 +60,7 @@
 //! At boot make the controller, load the clock ([`Rtc::load_persist`]) and the lists ([`TimeZoneStore::load_persist`]) with or without what
 //! flash holds of them, and then make the first look ([`TimeSyncHandler::look`]) and the first attempt ([`TimeSyncClient::attempt`]). A load
 //! of the lists that is refused with BadRecord changes nothing: go on with empty lists, and tell the administrator.
+//! Of the calls that set the clock only SetUTCTime wakes the timer: look again after a report of [`AttributeId::UTCTime`] too.
 //!
 //! Names are those of rs-matter wherever it has one: of types (`DSTOffsetEntry`), of methods (`load_persist`), of fields (`fab_idx`) and of
 //! Matter's own terms (`EventId::DSTTableEmpty`). Its `time_zone` is a zone in these sentences, and its `dst_offset` a window.
