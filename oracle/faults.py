@@ -1,9 +1,10 @@
 #!/usr/bin/env python3
-"""Changes a line of the Rust at a time, and looks whether `differ` detects the fault.
+"""Changes a line of the Rust at a time, and looks whether `differ` detects the fault; and a line of the adapter of
+`host` at a time, and looks whether `host` does.
 
 Copies this folder and the crate `timesync` to target/faults, puts the given files there, and for each change below writes the
-changed file into the copy, builds it and runs `differ` at a small size. A change is noticed where differ
-ends with status 1 (a difference, or a panic of the changed Rust). Changes that no sequence of calls can
+changed file into the copy, builds it and runs `differ` or `host` at a small size. A change is noticed where the run
+ends with status 1 (a difference, or a panic of what was changed). Changes that no sequence of calls can
 show are marked as such, with the reason. Status 1 where another one is not noticed.
 
 Usage: faults.py [--only TEXT] [--sequences N]; TIMESYNC_LIB_DIR and GIVEN as in run.sh."""
@@ -20,15 +21,18 @@ COPY = HERE / "target/faults/copy"
 BUILD = HERE / "target/faults/build"
 PROFILE = "faults"
 STEPS, SEED, SEQUENCES = "24", "1", "3000"
+HOST_ANSWERS = "4000000"
 LONGEST_RUN_S = 600
+# each file, and its place in the copy
 FILES = {
-    "time_sync": ("rs-matter-dm/src/clusters/time_sync.rs", "dm/clusters/time_sync.rs"),
-    "client": ("rs-matter-dm/src/clusters/time_sync/client.rs", "dm/clusters/time_sync/client.rs"),
-    "rtc": ("rs-matter-node-core/src/rtc.rs", "rtc.rs"),
-    "fmt": ("rs-matter-dm/src/fmt.rs", "fmt.rs"),
+    "time_sync": (GIVEN / "rs-matter-dm/src/clusters/time_sync.rs", "oracle/src/dm/clusters/time_sync.rs"),
+    "client": (GIVEN / "rs-matter-dm/src/clusters/time_sync/client.rs", "oracle/src/dm/clusters/time_sync/client.rs"),
+    "rtc": (GIVEN / "rs-matter-node-core/src/rtc.rs", "oracle/src/rtc.rs"),
+    "fmt": (GIVEN / "rs-matter-dm/src/fmt.rs", "oracle/src/fmt.rs"),
+    "adapter": (HERE / "host/src/adapter.rs", "host/src/adapter.rs"),
 }
 
-S, C, R = "time_sync", "client", "rtc"
+S, C, R, A = "time_sync", "client", "rtc", "adapter"
 CHANGES = [
     # file, line, what it becomes, which of the equal lines (from 1), reason where nothing can show it
     # ---- the list store
@@ -158,6 +162,74 @@ CHANGES = [
      "if let Some(utc_us) = utc_time.flatten().filter(|_| self.matter.with_state(|s| s.rtc.trusted_time_source()).is_some()) {", 1),
     (C, "if let Some(utc_us) = utc_time.flatten() {",
      "if let Some(utc_us) = utc_time.flatten().filter(|_| self.matter.with_state(|s| s.rtc.trusted_time_source()).is_none_or(|s| s == tts)) {", 1),
+    # ---- the adapter: requests
+    (A, "Ok(true)", "Ok(false)", 1),
+    (A, "entries.take(limit + 1)", "entries.take(limit)", 1),
+    (A, "entries.take(limit + 1)", "entries.take(limit + 2)", 1),
+    (A, "entries.take(limit + 1)", "entries", 1),
+    (A, "if count < limit {", "if count <= limit {", 1),
+    (A, "if count < limit {", "if count + 1 < limit {", 1),
+    (A, "const TIME_ZONES: usize = Limits::LARGEST.time_zone_max + 1;", "const TIME_ZONES: usize = Limits::LARGEST.time_zone_max;", 1),
+    (A, "const DST_OFFSETS: usize = Limits::LARGEST.dst_offset_max + 1;", "const DST_OFFSETS: usize = Limits::LARGEST.dst_offset_max;", 1),
+    (A, "[0; TIME_ZONE_SECTION_MAX + PAST_LIMIT]", "[0; TIME_ZONE_SECTION_MAX]", 1),
+    (A, "[0; DST_OFFSET_SECTION_MAX + PAST_LIMIT]", "[0; DST_OFFSET_SECTION_MAX]", 1),
+    (A, "name: zone.name()?", "name: None", 1),
+    (A, "offset: zone.offset()?", "offset: 0", 1),
+    (A, "valid_at: zone.valid_at()?", "valid_at: zone.valid_at()?.max(1)", 1),
+    (A, "window.valid_until()?.into_option());", "window.valid_until()?.into_option().or(Some(u64::MAX)));", 1),
+    # what cannot be decoded reaches the port: as fewer entries, as an empty list, or with another value
+    (A, "let entry = entry?;", "let Ok(entry) = entry else { break };", 1),
+    (A, "let entry = entry?;", "let Ok(entry) = entry else { continue };", 1),
+    (A, "request.time_zone()?.iter()", "request.time_zone().into_iter().flat_map(|list| list.iter())", 1),
+    (A, "request.dst_offset()?.iter()", "request.dst_offset().into_iter().flat_map(|list| list.iter())", 1),
+    (A, "name: zone.name()?", "name: zone.name().unwrap_or(None)", 1),
+    (A, "offset: window.offset()?", "offset: window.offset().unwrap_or(0)", 1),
+    (A, "out.get(..count).ok_or(ErrorCode::ResourceExhausted.into())", "out.get(..count).ok_or(ErrorCode::Invalid.into())", 1,
+     "no more entries are counted than there is room for"),
+    # ---- the adapter: answers and effects
+    (A, "Refusal::ConstraintError => ErrorCode::ConstraintError.into(),",
+     "Refusal::ConstraintError => ErrorCode::InvalidCommand.into(),", 1),
+    (A, "Refusal::ResourceExhausted => ErrorCode::ResourceExhausted.into(),",
+     "Refusal::ResourceExhausted => ErrorCode::ConstraintError.into(),", 1),
+    (A, "_ => ErrorCode::Invalid.into(),", "_ => ErrorCode::ConstraintError.into(),", 1),
+    (A, "answer.map_err(error).and(stored)", "drop(answer);\n        stored", 1),
+    (A, "answer.map_err(error).and(stored)", "answer.map_err(error)", 1),
+    (A, "Effect::WakeTimer => self.changed.notify(),", "Effect::WakeTimer => {}", 1),
+    # the wake of a refusal is lost, that of an accepted command is not
+    (A, "Effect::WakeTimer => self.changed.notify(),\n            Effect::StoreRecord(record) => stored = self.storage.store(record),",
+     "Effect::WakeTimer => {}\n            Effect::StoreRecord(record) => {\n                self.changed.notify();\n"
+     "                stored = self.storage.store(record)\n            }", 1),
+    (A, "Effect::StoreRecord(record) => stored = self.storage.store(record),", "", 1),
+    (A, "Effect::RemoveRecord => stored = self.storage.remove(),", "", 1),
+    (A, "let record = &mut [0; RECORD_MAX];", "let record = &mut [0; RECORD_MAX - 1];", 1,
+     "an accepted SetTimeZone leaves no window, so its record is shorter"),
+    (A, "let record = &mut [0; RECORD_MAX];", "let record = &mut [0; RECORD_MAX - 1];", 2),
+    (A, "self.changed.wait().await", "core::future::pending().await", 1),
+    # ---- the adapter: readings
+    (A, "for index in 0..controller.handler().time_zone_count()", "for index in 1..controller.handler().time_zone_count()", 1),
+    (A, "for index in 0..controller.handler().dst_offset_count()", "for index in 1..controller.handler().dst_offset_count()", 1),
+    (A, "controller.handler().time_zone(index)", "controller.handler().time_zone(index + 1)", 1),
+    (A, "controller.handler().dst_offset(index)", "controller.handler().dst_offset(0)", 1),
+    (A, "name: zone.name.as_deref() })?;", "name: None })?;", 1),
+    (A, "name: zone.name.as_deref() })?;", "name: zone.name.as_deref() }).ok();", 1),
+    (A, "visit(&DSTOffsetEntry { offset, valid_starting, valid_until })?;",
+     "visit(&DSTOffsetEntry { offset, valid_starting, valid_until: valid_until.or(Some(u64::MAX)) })?;", 1),
+    (A, "visit(&DSTOffsetEntry { offset, valid_starting, valid_until })?;",
+     "visit(&DSTOffsetEntry { offset, valid_starting, valid_until }).ok();", 1),
+    (A, "_ => Ok(TimeZoneDatabaseEnum::None),", "_ => Ok(TimeZoneDatabaseEnum::Partial),", 1),
+    (A, "0 => Ok(TimeZoneDatabaseEnum::Full),", "0 => Ok(TimeZoneDatabaseEnum::Partial),", 1, "the port has no database: 2"),
+    (A, "controller.handler().dst_offset_list_max_size()", "controller.handler().time_zone_list_max_size()", 1),
+    (A, "Controller::new(Some(limits), NO_BUILD, NO_PERIOD)", "Controller::new(Some(Limits::DEVICE), NO_BUILD, NO_PERIOD)", 1),
+    (A, "const NO_BUILD: u64 = 0;", "const NO_BUILD: u64 = 1;", 1, "the port's clock is not used"),
+    # ---- the adapter: life
+    (A, "LifecycleOp::Startup => self.load(),", "LifecycleOp::Startup => Ok(()),", 1),
+    (A, "LifecycleOp::FactoryReset => self.reset(),", "LifecycleOp::FactoryReset => Ok(()),", 1),
+    (A, "LifecycleOp::FactoryReset => self.reset(),", "LifecycleOp::FactoryReset | LifecycleOp::FailSafeExpiry => self.reset(),", 1),
+    (A, "load_persist(record)", "load_persist(None)", 1),
+    (A, "let mut buf = [0; RECORD_MAX];", "let mut buf = [0; RECORD_MAX - 1];", 1),
+    (A, "self.storage.load(&mut buf)?;", "self.storage.load(&mut buf).unwrap_or(None);", 1),
+    (A, "Err(Refusal::BadRecord) => self.storage.bad_record(),", "Err(Refusal::BadRecord) => {}", 1),
+    (A, "Err(Refusal::BadRecord) => self.storage.bad_record(),", "", 1),
 ]
 
 
@@ -171,7 +243,7 @@ def changed(text, old, new, which):
 
 def put(name, text):
     """Written even where it is equal: cargo goes by the time of a file."""
-    target = COPY / "oracle/src" / FILES[name][1]
+    target = COPY / FILES[name][1]
     target.parent.mkdir(parents=True, exist_ok=True)
     target.write_text(text)
 
@@ -187,17 +259,22 @@ def copy_crates():
     shutil.copytree(HERE.parent / "rust", COPY.parent / "rust", ignore=shutil.ignore_patterns("target", "bench"), dirs_exist_ok=True)
 
 
-def ask(sequences):
-    """The status of differ, none where it does not build, and the output."""
+def program(name):
+    """The program that a change of this file is tried on."""
+    return "host" if name == A else "differ"
+
+
+def ask(asked, sequences):
+    """The status of the program, none where it does not build, and the output."""
     environment = dict(os.environ, CARGO_TARGET_DIR=str(BUILD))
     environment.setdefault("TIMESYNC_LIB_DIR", str(HERE.parent / "target/staticlib"))
-    build = subprocess.run(["cargo", "build", "--offline", "--profile", PROFILE, "-p", "differ"], cwd=COPY, env=environment,
+    build = subprocess.run(["cargo", "build", "--offline", "--profile", PROFILE, "-p", asked], cwd=COPY, env=environment,
                            capture_output=True, text=True)
     if build.returncode:
         return None, build.stderr
+    size = {"differ": [SEED, STEPS, sequences], "host": ["--seed", SEED, "--answers", HOST_ANSWERS]}
     try:
-        run = subprocess.run([BUILD / PROFILE / "differ", SEED, STEPS, sequences], capture_output=True, text=True,
-                             timeout=LONGEST_RUN_S)
+        run = subprocess.run([BUILD / PROFILE / asked, *size[asked]], capture_output=True, text=True, timeout=LONGEST_RUN_S)
     except subprocess.TimeoutExpired:
         return 1, "difference: it does not end"
     return run.returncode, run.stdout
@@ -209,7 +286,7 @@ def judged(status, output, reason):
         return "NOT BUILT", "; ".join(line for line in output.splitlines() if line.startswith("error"))[:200]
     if status:
         smaller = (line for line in output.splitlines() if line.startswith("made smaller"))
-        return "noticed", next(smaller, output[:120]).removeprefix("made smaller: ")
+        return "noticed", next(smaller, output[:120].strip()).removeprefix("made smaller: ")
     return ("equivalent", reason[0]) if reason else ("NOT NOTICED", "")
 
 
@@ -218,29 +295,36 @@ def option(name, default):
     return words[words.index(name) + 1] if name in words else default
 
 
+def unchanged(programs, sequences):
+    """Stops where a program finds a difference already."""
+    for asked in programs:
+        status, output = ask(asked, sequences)
+        print(f"unchanged, {asked}: {'no difference' if status == 0 else 'NOT USABLE'}", flush=True)
+        if status != 0:
+            sys.exit(output)
+
+
 def main():
     only, sequences = option("--only", ""), option("--sequences", SEQUENCES)
     copy_crates()
-    texts = {name: (GIVEN / path).read_text() for name, (path, _) in FILES.items()}
+    texts = {name: path.read_text() for name, (path, _) in FILES.items()}
     for name in FILES:
         put(name, texts[name])
-    status, output = ask(sequences)
-    print(f"unchanged: {'no difference' if status == 0 else 'NOT USABLE'}", flush=True)
-    if status != 0:
-        sys.exit(output)
-    count = {"noticed": 0, "equivalent": 0, "NOT NOTICED": 0, "NOT BUILT": 0}
+    tried = [(change, *changed(texts[change[0]], *change[1:4])) for change in CHANGES]
+    tried = [(change, text, line) for change, text, line in tried if only in f"{change[0]}.rs:{line} {change[1]}"]
+    count = {program(change[0]): {"noticed": 0, "equivalent": 0, "NOT NOTICED": 0, "NOT BUILT": 0} for change, _, _ in tried}
+    unchanged(count, sequences)
     begun = time.time()
-    for name, old, new, which, *reason in CHANGES:
-        text, line = changed(texts[name], old, new, which)
-        if only not in f"{name}.rs:{line} {old}":
-            continue
+    for (name, old, new, _, *reason), text, line in tried:
         put(name, text)
-        verdict, why = judged(*ask(sequences), reason)
+        verdict, why = judged(*ask(program(name), sequences), reason)
         put(name, texts[name])
-        count[verdict] += 1
+        count[program(name)][verdict] += 1
         print(f"{verdict:11} | {name}.rs:{line} | {shown(old)} -> {shown(new)} | {why[:160]}", flush=True)
-    print(", ".join(f"{n} {verdict}" for verdict, n in count.items()), f"in {time.time() - begun:.0f} s")
-    sys.exit(1 if count["NOT NOTICED"] or count["NOT BUILT"] else 0)
+    for asked, verdicts in count.items():
+        print(f"{asked}:", ", ".join(f"{n} {verdict}" for verdict, n in verdicts.items()))
+    print(f"{time.time() - begun:.0f} s")
+    sys.exit(1 if any(verdicts["NOT NOTICED"] or verdicts["NOT BUILT"] for verdicts in count.values()) else 0)
 
 
 main()

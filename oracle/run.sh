@@ -1,8 +1,8 @@
 #!/bin/sh
-# Puts the files under test in place and checks them, builds, runs the smoke test of the oracle, and
-# runs the port and the oracle side by side. Arguments are handed to `differ`, for example
-# `--answers 100000000 --seed 2`. The archives libcontroller.a and libreplay.a are looked for in the folder
-# that TIMESYNC_LIB_DIR names, or else in target/staticlib at the top of the repository.
+# Puts the files under test in place and checks them, builds, runs the smoke test of the oracle, runs the Rust's
+# handler over the port's list store, and runs the port and the oracle side by side. Arguments are handed to
+# `differ`, for example `--answers 100000000 --seed 2`. The archives libcontroller.a and libreplay.a are looked for
+# in the folder that TIMESYNC_LIB_DIR names, or else in target/staticlib at the top of the repository.
 set -e
 here=$(cd "$(dirname "$0")" && pwd)
 lib=${TIMESYNC_LIB_DIR:-$here/../target/staticlib}
@@ -20,4 +20,5 @@ cargo build --offline --release
 ./target/release/oracle < smoke.in > target/smoke.got
 diff smoke.want target/smoke.got
 echo "smoke: $(wc -l < target/smoke.got) answers as wanted"
+./target/release/host
 exec ./target/release/differ "$@"

@@ -64,6 +64,7 @@
 //!
 //! Names are those of rs-matter wherever it has one: of types (`DSTOffsetEntry`), of methods (`load_persist`), of fields (`fab_idx`) and of
 //! Matter's own terms (`EventId::DSTTableEmpty`). Its `time_zone` is a zone in these sentences, and its `dst_offset` a window.
+//! `oracle/host/src/adapter.rs` implements rs-matter's trait `TimeZones` over this crate: it shows how to put the port into a device.
 
 #![no_std]
 #![deny(missing_docs)]

@@ -8,7 +8,6 @@
 //! Status 1 on a difference, which is made smaller and shown; 2 on arguments that cannot be read.
 #![forbid(unsafe_code)]
 
-mod bytes;
 mod cases;
 mod input;
 mod lent;
@@ -23,6 +22,7 @@ use std::process::exit;
 use std::time::Instant;
 
 use cases::Case;
+use differ::{bytes, draw};
 use world::Diff;
 
 /// Takes one to two minutes on one core

@@ -4,6 +4,7 @@ use core::marker::PhantomData;
 use core::num::NonZeroU8;
 use core::pin::Pin;
 use core::task::{Context, Poll, Waker};
+use std::rc::Rc;
 
 use crate::dm::clusters::decl::time_synchronization::{
     SetTimeZoneResponseBuilder, SetTrustedTimeSourceRequest, SetUTCTimeRequest,
@@ -15,7 +16,11 @@ use crate::dm::clusters::time_sync::{
     SetDSTOffsetRequest, SetTimeZoneRequest, TimeSyncHandler, TimeZoneStore,
     TimeZoneStructArrayBuilder, TimeZoneStructBuilder, TimeZones,
 };
-pub use crate::dm::clusters::decl::time_synchronization::{set_unreadable, WindowArg, ZoneArg};
+#[cfg(feature = "parts")]
+pub use crate::dm::clusters::decl::time_synchronization::set_unreadable_part;
+pub use crate::dm::clusters::decl::time_synchronization::{
+    set_unreadable, RequestPart, WindowArg, ZoneArg,
+};
 pub use crate::rtc::{Rtc, TimeGranularity, TimeSource, TrustedTimeSource};
 use crate::dm::{
     event_data, ArrayAttributeRead, AttrChangeNotifier, AttrId, ClusterId, CmdDetails, Dataver,
@@ -326,6 +331,8 @@ pub struct Device {
     store: *mut TimeZoneStore<2, 2>,
     /// A list store at other limits, as a provider of the handler: no timer, nothing stored
     provider: *mut dyn AnyStore,
+    /// A provider that is not of the unchanged files
+    custom: Option<Rc<dyn TimeZones>>,
     matter: *mut Matter<'static>,
     kv: *mut SharedKv,
 }
@@ -360,6 +367,16 @@ impl Device {
         Some(Self::make(false, Some(make_store(z, w)?)))
     }
 
+    /// A handler over a provider that is not of the unchanged files
+    pub fn with_time_zones(custom: Rc<dyn TimeZones>) -> Self {
+        let mut device = Self::make(false, None);
+        let lent: &'static dyn TimeZones = unsafe { &*Rc::as_ptr(&custom) };
+        let handler = unsafe { &mut *device.handler };
+        *handler = handler.clone().with_time_zones(lent);
+        device.custom = Some(custom);
+        device
+    }
+
     fn make(with_store: bool, provider: Option<Box<dyn AnyStore>>) -> Self {
         let kv = Box::into_raw(Box::new(SharedKv::default()));
         let matter = Box::into_raw(Box::new(Matter::new()));
@@ -389,6 +406,7 @@ impl Device {
             handler: Box::into_raw(Box::new(handler)),
             store,
             provider,
+            custom: None,
             matter,
             kv,
         }
@@ -503,12 +521,14 @@ impl Device {
 
     // Life
 
+    pub fn lifecycle(&self, op: LifecycleOp) -> Result<(), Error> {
+        self.handler().lifecycle(self.ctx(1), op)
+    }
     pub fn startup(&self) -> Result<(), Error> {
-        self.handler().lifecycle(self.ctx(1), LifecycleOp::Startup)
+        self.lifecycle(LifecycleOp::Startup)
     }
     pub fn factory_reset(&self) -> Result<(), Error> {
-        self.handler()
-            .lifecycle(self.ctx(1), LifecycleOp::FactoryReset)
+        self.lifecycle(LifecycleOp::FactoryReset)
     }
     /// What the flash holds, silently
     pub fn put_lists(&self, lists: Option<Value>) {
