@@ -1,9 +1,9 @@
 #!/usr/bin/env python3
-"""Runs the program `schedule` at every edge and on many records made by chance, and compares what it prints, byte for byte; then with
-standard input and output that are closed, unreadable, full or cut.
+"""Runs the program `schedule` at every edge and on many records made by chance, and compares what it prints, byte for byte; then it
+and the program `vectors` with standard input and output that are closed, unreadable, full or cut.
 
 What is expected comes from the readers and rules of tests/vectors.py and a walk written here, never from a run of the port.
-Usage: tests/schedule.py, once `rt check schedule` has built target/bin/schedule."""
+Usage: tests/schedule.py, once `rt check` has built both programs in target/bin."""
 import os
 import pathlib
 import random
@@ -17,7 +17,8 @@ import tempfile
 
 from vectors import TOP, ends, entries, read_window, read_zone, section, some_windows, some_zones, window, windows_answer, zone, zones_answer
 
-PROGRAM = pathlib.Path(__file__).resolve().parent.parent / "target" / "bin" / "schedule"
+PROGRAMS = pathlib.Path(__file__).resolve().parent.parent / "target" / "bin"
+PROGRAM, VECTORS = PROGRAMS / "schedule", PROGRAMS / "vectors"
 REFUSED = "refused 7\n"
 LONGEST = 970
 
@@ -117,6 +118,8 @@ EXAMPLE = at(500, [zone(3600, 0), zone(7200, 2000)], [window(3600, 1000, 2000)])
 
 # input that is closed, a directory and empty; output that is closed and full; both closed: a shell's words, and the text that comes
 REDIRECTIONS = (("<&-", REFUSED), ("</", REFUSED), ("</dev/null", REFUSED), (">&-", ""), (">/dev/full", ""), ("<&- >&-", ""))
+# of `vectors`: whether one letter is UTF-8
+ROW, ANSWER = b"u 41\n", "u 41: well-formed\n"
 
 
 def whole(text):
@@ -128,9 +131,9 @@ def seen(ran, printed):
     return printed.decode("ascii", "replace"), ran.returncode
 
 
-def redirected(how):
-    """Runs the program on EXAMPLE with a shell's redirection; the text has what it writes to standard error too."""
-    ran = subprocess.run(["sh", "-c", f'exec "$0" {how}', PROGRAM], input=EXAMPLE, stdout=subprocess.PIPE, stderr=subprocess.STDOUT,
+def redirected(program, given, how):
+    """Runs a program with a shell's redirection; the text has what it writes to standard error too."""
+    ran = subprocess.run(["sh", "-c", f'exec "$0" {how}', program], input=given, stdout=subprocess.PIPE, stderr=subprocess.STDOUT,
                          check=False)
     return seen(ran, ran.stdout)
 
@@ -144,11 +147,11 @@ def limited(given, room):
         return seen(ran, file.read())
 
 
-def without_reader(restored):
-    """Runs the program on EXAMPLE with a pipe that nobody reads, where SIGPIPE is what it is by default, or else ignored."""
+def without_reader(program, given, restored):
+    """Runs a program with a pipe that nobody reads, where SIGPIPE is what it is by default, or else ignored."""
     reading, writing = os.pipe()
     os.close(reading)
-    ran = subprocess.run([PROGRAM], input=EXAMPLE, stdout=writing, check=False, restore_signals=restored)
+    ran = subprocess.run([program], input=given, stdout=writing, check=False, restore_signals=restored)
     os.close(writing)
     return seen(ran, b"")
 
@@ -163,9 +166,12 @@ def cut(given):
 
 def streams():
     """What is done with standard input and output, what then comes, and what is due: the text and the status."""
-    yield from ((how, redirected(how), (text, 0)) for how, text in REDIRECTIONS)
-    yield "no reader", without_reader(True), ("", -signal.SIGPIPE)
-    yield "no reader, SIGPIPE ignored", without_reader(False), ("", 0)
+    yield from ((how, redirected(PROGRAM, EXAMPLE, how), (text, 0)) for how, text in REDIRECTIONS)
+    yield from ((f"vectors {how}", redirected(VECTORS, ROW, how), ("", 0)) for how, _ in REDIRECTIONS)
+    yield "vectors", redirected(VECTORS, ROW, ""), (ANSWER, 0)
+    for program, given in ((PROGRAM, EXAMPLE), (VECTORS, ROW)):
+        yield f"{program.name}, no reader", without_reader(program, given, True), ("", -signal.SIGPIPE)
+        yield f"{program.name}, no reader, SIGPIPE ignored", without_reader(program, given, False), ("", 0)
     yield from cut(EXAMPLE)
     yield from cut(b"")
 
