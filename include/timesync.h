@@ -217,9 +217,8 @@ uint64_t timesync_set_trusted_time_source(uint8_t *image, size_t image_len, uint
 /*
  * SetUTCTime: sets the clock at a tick, with source Admin and with granularity one step lower, but not below Minutes. The request's own
  * source is tested and ignored. The moment is not stored.
- * The setting is kept where the clock was not set, or where moment, lowered granularity or source are different: the clock counts on from
- * the tick. Else the clock stays as it was, the tick of its last setting too.
- * Effects: if kept report UTCTime, Granularity, TimeSource; then, with a list store, kept or not, wake the timer.
+ * The clock counts on from the tick, also where it is set to what it was set to before.
+ * Effects: report UTCTime, Granularity, TimeSource; then, with a list store, wake the timer.
  * Refuses: 8, 1 (granularity above 4, or a source that is there and above 16).
  */
 uint64_t timesync_set_utc_time(uint8_t *image, size_t image_len, uint64_t utc_us, uint8_t granularity, uint8_t has_source, uint8_t source,
@@ -262,14 +261,15 @@ uint64_t timesync_reset_clock(uint8_t *image, size_t image_len, uint64_t build);
 
 /*
  * Sets the clock as timesync_set_utc_time does, but with this source and without waking the timer. *changed is 1 where moment, lowered
- * granularity or source are different, else 0.
- * Effects: if kept report UTCTime, Granularity, TimeSource.
+ * granularity or source are not those of the last setting, else 0; the moment that the clock reads by now does not count.
+ * Effects, changed or not: report UTCTime, Granularity, TimeSource.
  * Refuses: 8, 1 (granularity above 4, or source above 16).
  */
 uint64_t timesync_rtc_set_utc_time(uint8_t *image, size_t image_len, uint64_t utc_us, uint8_t granularity, uint8_t source, uint64_t tick,
                                    uint64_t *changed);
 
-/* The same, with one effect more at the end: store the moment utc_us where it is a day or more from the persisted one, kept or not. */
+/* The same, with one effect more at the end: store the moment utc_us where it is a day or more from the persisted one, changed or
+ * not. */
 uint64_t timesync_rtc_set_utc_time_persist(uint8_t *image, size_t image_len, uint64_t utc_us, uint8_t granularity, uint8_t source,
                                            uint64_t tick, uint64_t *changed);
 

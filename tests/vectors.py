@@ -218,10 +218,8 @@ class Clock:
             return "no time source"
         new = (moment, max(granularity - 1, MINUTES), source)
         changed = new != (self.utc, self.granularity, self.source)
-        kept = changed or self.anchor is None
-        if kept:
-            (self.utc, self.granularity, self.source), self.anchor = new, tick
-        return ("changed" if changed else "same") + (", kept" if kept else ", not kept")
+        (self.utc, self.granularity, self.source), self.anchor = new, tick
+        return "changed" if changed else "same"
 
     def set(self, moment, granularity=SECONDS, source=ADMIN, tick=0):
         self.answers.append(self.setting(b"S", moment, granularity, source, tick))
@@ -229,7 +227,7 @@ class Clock:
 
     def persist(self, moment, granularity=SECONDS, source=ADMIN, tick=0):
         answer = self.setting(b"P", moment, granularity, source, tick)
-        if answer.endswith("kept"):
+        if answer in ("changed", "same"):
             stored = abs(self.persisted - moment) >= DAY
             self.persisted = moment if stored else self.persisted
             answer += f", stored {moment}" if stored else ", not stored"
@@ -301,13 +299,16 @@ def setting_rows():
     for source in range(TIME_SOURCES):
         clock.set(7, 0, source, source).read(20)
     clock.set(7, 0, TIME_SOURCES, 19).set(7, GRANULARITIES, 0, 19).set(7, 255, 255, 19).persist(7, 4, 255, 19).persist(7, 255, 4, 19).read(20).row()
-    # equal settings, on a clock that is not set too; only the moment, the granularity or the time source is new
+    # equal settings, and only the moment, the granularity or the time source new
     clock = Clock().set(0, 0, 0, 4).read(9).set(0, 0, 0, 5).read(9).set(0, 1, 0, 6).read(9).set(0, 2, 0, 7).read(9)
     clock.set(1, 2, 0, 8).read(9).set(1, 3, 0, 9).read(9).set(1, 3, 1, 10).read(9, 10, 11).set(1, 3, 1, 3).read(11).row()
+    # ten minutes later: the same, the same by a granularity that is lowered to the same one, what the clock reads by then, and no setting
+    for again in ((1000, SECONDS), (1000, 0), (1000, MINUTES), (1000, 3), (600_001_000, SECONDS), (1000, GRANULARITIES)):
+        Clock().set(1000).set(*again, tick=600_000_000).read(0, 600_000_000, 600_000_001).persist(*again, tick=700_000_000).read(700_000_000).row()
 
 
 def persisting_rows():
-    """A moment is stored a day or more from the persisted one, whether the setting is kept or not."""
+    """A moment is stored a day or more from the persisted one, whether the setting changes something or not."""
     for stored in (0, 1, DAY, 2 * DAY, TOP - DAY, TOP):
         clock = Clock()
         for moment in within(*(stored + side * DAY + more for side in (-1, 0, 1) for more in (-1, 0, 1)), 0, TOP):
@@ -507,14 +508,12 @@ class Device:
         self.clock, self.lists, self.bytes, self.answers = None, ([], []), b"", []
 
     def utc(self, moment, granularity, tick):
-        """SetUTCTime; an equal setting leaves the clock as it runs."""
+        """SetUTCTime; an equal setting starts the clock over too."""
         self.bytes += b"U" + struct.pack("<QBQ", moment, granularity, tick)
         if granularity > 4:
             self.answers.append(1)
             return self
-        setting = (moment, max(granularity - 1, MINUTES))
-        if self.clock is None or self.clock[0] != setting:
-            self.clock = (setting, tick)
+        self.clock = (moment, tick)
         self.answers.append(0)
         return self
 
@@ -576,7 +575,7 @@ class Device:
             return "null"
         if self.lists is None:
             return 6
-        now = min(self.clock[0][0] + max(tick - self.clock[1], 0), TOP)
+        now = min(self.clock[0] + max(tick - self.clock[1], 0), TOP)
         spans = [(offset, start, end) for (offset, start, _), end in zip(self.lists[1], ends(self.lists[1]))]
         if not any(end is None or now < end for _, _, end in spans):
             return "null"
@@ -603,6 +602,9 @@ def script_rows():
     device.local(HOUR * 1_000_000 + 1).zones((0, 0), (-HOUR, later)).windows((0, 0)).local(0).local(HOUR * 1_000_000).row()
     # steps of TestTimeSynchronization, as they are publicly known: granularity 5, and a setting that is read back
     Device().utc(now, 5, 0).windows((0, 0)).local(0).utc(now, 2, 0).local(0).utc(now, 2, 9).local(9).utc(now + 1, 4, 9).local(10).row()
+    # an installer sends the same moment ten minutes later, then by a request that cannot be read
+    ten = 600_000_000
+    Device().windows((HOUR, 0)).utc(now, 2, 0).local(ten).utc(now, 2, ten).local(ten).utc(now, 0, 2 * ten).local(2 * ten).utc(now, 5, 3 * ten).local(3 * ten).row()
     # held at both ends
     Device().utc(0, 3, 0).zones((-12 * HOUR, 0)).windows((0, 0)).local(0).local(12 * HOUR * 1_000_000 + 1).row()
     Device().utc(TOP, 3, 0).zones((14 * HOUR, 0)).windows((2**31 - 1, 0)).local(0).row()

@@ -147,8 +147,9 @@ impl<I: AsRef<[u8]>> TimeSyncHandler<I> {
 }
 
 impl<I: AsRef<[u8]> + AsMut<[u8]>> TimeSyncHandler<I> {
-    /// SetUTCTime, with the numbers that the request has. Any readable time source is ignored: the clock's becomes Admin. Refused with
-    /// Unreadable where a number names nothing.
+    /// SetUTCTime, with the numbers that the request has. Any readable time source is ignored: the clock's becomes Admin. The clock counts
+    /// on from the tick and is reported, also where it is set to what it was set to before. Refused with Unreadable where a number names
+    /// nothing.
     pub fn handle_set_utc_time(&mut self, utc_us: u64, granularity: u8, time_source: Option<u8>, tick: u64) -> Outcome<'static> {
         let returned = entry::set_utc_time(
             self.image.as_mut(),

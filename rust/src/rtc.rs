@@ -129,8 +129,25 @@ impl<I: AsRef<[u8]>> Rtc<I> {
 }
 
 impl<I: AsRef<[u8]> + AsMut<[u8]>> Rtc<I> {
-    /// Sets the clock at a tick and stores nothing; answers whether something changed. The granularity is kept one step lower, and never
-    /// below Minutes. A setting that changes nothing leaves a set clock as it was.
+    /// Sets the clock, which counts on from the tick, and stores nothing. The granularity is lowered one step, but not below Minutes.
+    ///
+    /// Answers whether moment, lowered granularity or source are not those of the last setting. Where they are, the clock is set and
+    /// reported all the same:
+    ///
+    /// ```
+    /// # use timesync::{AttributeId, Controller, Effect, Refusal, TimeGranularity, TimeSource, UtcTime};
+    /// # fn main() -> Result<(), Refusal> {
+    /// # let mut controller = Controller::new(None, 5, 3_600_000_000)?;
+    /// for (tick, changed) in [(0, true), (600_000_000, false)] {
+    ///     let set = controller.rtc_mut().set_utc_time(1000, TimeGranularity::Seconds, TimeSource::Admin, tick);
+    ///     let mut reported = false;
+    ///     let answer = set.carry_out(|effect| reported |= effect == Effect::Report(AttributeId::UTCTime))?;
+    ///     assert_eq!((answer, reported), (changed, true));
+    ///     assert_eq!(controller.rtc().utc_time(tick)?, UtcTime::Reliable(1000));
+    /// }
+    /// # Ok(())
+    /// # }
+    /// ```
     pub fn set_utc_time(&mut self, utc_us: u64, granularity: TimeGranularity, source: TimeSource, tick: u64) -> Outcome<'static, bool> {
         self.set(entry::rtc_set_utc_time, utc_us, granularity, source, tick)
     }

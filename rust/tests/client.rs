@@ -95,9 +95,11 @@ fn an_applied_time() {
     let (effects, applied) = taken(&image, told(4, 30));
     assert_eq!(effects, [UTC.to_vec(), vec![StoreMoment]].concat());
     assert_eq!(applied.n[..2], [1, 10 * MINUTE]);
-    // Microseconds count as Milliseconds, which are kept as Seconds; the source is NodeTimeCluster
+    // Microseconds count as Milliseconds, which are lowered to Seconds; the source is NodeTimeCluster
     assert_eq!(applied.image[CLOCK..CLOCK + 3], [2, 3, 1]);
-    assert_eq!(taken(&applied.image, told(3, 31)).0, []);
+    let (effects, again) = taken(&applied.image, told(3, 31));
+    assert_eq!(effects, UTC);
+    assert_eq!(again.image[CLOCK..CLOCK + 3], [2, 3, 1]);
     assert_eq!(taken(&applied.image, told(77, 31)).0, UTC);
     // the retries started over
     assert_eq!(taken(&applied.image, failure(31)).1.n[..2], [1, MINUTE]);
@@ -128,7 +130,7 @@ fn the_longest_retry() {
 
 #[test]
 fn a_reading_without_a_granularity() {
-    // it counts as Seconds, which are kept as Minutes
+    // it counts as Seconds, which are lowered to Minutes
     let (effects, applied) = taken(&sourced(HOUR), reading(Some(7 * DAY + 1), None, 5));
     assert_eq!((effects, &applied.n[..2]), (UTC.to_vec(), &[1, HOUR][..]));
     assert_eq!(taken(&applied.image, Call::Granularity).1.n[0], 1);
@@ -139,11 +141,11 @@ fn a_reading_without_a_granularity() {
 fn an_equal_reading_is_applied() {
     let equal = |tick| reading(Some(7 * DAY + 1), Some(3), tick);
     let image = prepared(sourced(HOUR), &[equal(5), failure(6), failure(7)]);
-    // nothing to report or to store, and a wait of the period
+    // reported, nothing to store, and a wait of the period
     let (effects, applied) = taken(&image, equal(8));
-    assert_eq!((effects, &applied.n[..2]), (vec![], &[1, HOUR][..]));
-    // the anchor stays, and the retries start over
-    assert_eq!(taken(&applied.image, Call::UtcTime(9)).1.n[..2], [1, 7 * DAY + 5]);
+    assert_eq!((effects, &applied.n[..2]), (UTC.to_vec(), &[1, HOUR][..]));
+    // the anchor moves, and the retries start over
+    assert_eq!(taken(&applied.image, Call::UtcTime(9)).1.n[..2], [1, 7 * DAY + 2]);
     assert_eq!(taken(&applied.image, failure(9)).1.n[..2], [1, 60 * SECOND]);
 }
 

@@ -13,6 +13,13 @@ fn numbers(image: &[u8]) -> (u8, u8, u64) {
     (image[ZONE_COUNT], image[WINDOW_COUNT], word(image, GENERATION, 4))
 }
 
+/// The image with its clock's anchor at this tick.
+fn anchored(image: &[u8], tick: u64) -> Vec<u8> {
+    let mut moved = image.to_vec();
+    moved[CLOCK + 24..CLOCK + 32].copy_from_slice(&tick.to_le_bytes());
+    moved
+}
+
 const UTC: [EffectCode; 3] = [
     Report(AttributeId::UTCTime),
     Report(AttributeId::Granularity),
@@ -24,17 +31,29 @@ fn set_utc_time() {
     let set = |utc, granularity, tick| Call::SetUtcTime(utc, granularity, 0, 0, tick);
     for (limits, wakes) in [(Some((2, 2)), true), (None, false)] {
         let wake = if wakes { vec![WakeTimer] } else { vec![] };
+        let due = [UTC.to_vec(), wake].concat();
         let (effects, lent) = taken(&made(limits), set(DAY, 3, 10));
-        assert_eq!(effects, [UTC.to_vec(), wake.clone()].concat());
-        // the same again is not kept, and the anchor stays
-        let (effects, again) = taken(&lent.image, set(DAY, 3, 99));
-        assert_eq!(effects, wake);
-        assert!(again.image == lent.image);
-        // another granularity with the same lowered one is the same
-        let (_, minutes) = taken(&made(limits), set(DAY, 1, 10));
-        assert_eq!(taken(&minutes.image, set(DAY, 2, 99)).0, wake);
-        assert_eq!(taken(&minutes.image, set(DAY, 0, 99)).0, wake);
-        assert_eq!(taken(&minutes.image, set(DAY, 4, 99)).0, [UTC.to_vec(), wake].concat());
+        assert_eq!(effects, due);
+        // the same again, also at an earlier tick: reported, and nothing but the anchor is new
+        for tick in [99, 10, 4, 0] {
+            let (effects, again) = taken(&lent.image, set(DAY, 3, tick));
+            assert_eq!(effects, due);
+            assert_eq!(taken(&again.image, Call::UtcTime(tick)).1.n[..2], [1, DAY]);
+            assert!(again.image == anchored(&lent.image, tick));
+        }
+        // a granularity that is lowered to the same one is the same, and another one is not
+        for (granularity, changed) in [(0, false), (1, false), (2, false), (3, true), (4, true)] {
+            let (_, minutes) = taken(&made(limits), set(DAY, 1, 10));
+            let (effects, again) = taken(&minutes.image, set(DAY, granularity, 99));
+            assert_eq!(effects, due);
+            assert_eq!(again.image != anchored(&minutes.image, 99), changed);
+        }
+        // refused, it moves nothing
+        for refused in [set(DAY, 5, 99), Call::SetUtcTime(DAY, 3, 1, 17, 99)] {
+            let mut after = Lent::new(&lent.image, 962);
+            assert_eq!(Library::new().held(&refused, &mut after), 1);
+            assert!(after.image == lent.image);
+        }
     }
 }
 
@@ -165,19 +184,25 @@ fn the_clocks_own_setting() {
     let (effects, lent) = taken(&image, set(9 * DAY, 3));
     assert_eq!((effects, lent.n[0]), (UTC.to_vec(), 1));
     let (effects, again) = taken(&lent.image, set(9 * DAY, 4));
-    assert_eq!((effects, again.n[0]), (vec![], 0));
+    assert_eq!((effects, again.n[0]), (UTC.to_vec(), 0));
+    assert!(again.image == anchored(&lent.image, 4));
+    // changed or not is asked of the last setting, not of what the clock reads by now
+    let (_, now) = taken(&lent.image, Call::UtcTime(10));
+    assert_eq!(taken(&lent.image, set(now.n[1], 10)).1.n[0], 1);
     // a day from the persisted moment is stored, a microsecond less is not, in both directions
     for (utc, stored) in [(8 * DAY, true), (8 * DAY - 1, false), (6 * DAY, true), (6 * DAY + 1, false)] {
         let (effects, lent) = taken(&image, persist(utc, 3));
         assert_eq!(effects, [UTC.to_vec(), if stored { vec![StoreMoment] } else { vec![] }].concat());
         assert_eq!(word(&lent.image, CLOCK + 16, 8), if stored { utc } else { 7 * DAY });
     }
-    // not kept, and stored all the same
-    let (effects, kept) = taken(&lent.image, persist(9 * DAY, 5));
-    assert_eq!((effects, kept.n[0]), (vec![StoreMoment], 0));
-    // the persisted moment was replaced: the same again stores nothing
-    assert_eq!(taken(&kept.image, persist(9 * DAY, 6)).0, []);
-    // on a clock that is not set a setting that changes nothing is kept; only a damaged image has such a clock
+    // not changed, and stored all the same
+    let (effects, stored) = taken(&lent.image, persist(9 * DAY, 5));
+    assert_eq!((effects, stored.n[0]), ([UTC.to_vec(), vec![StoreMoment]].concat(), 0));
+    // the persisted moment was replaced: the same again stores nothing, and the anchor moves
+    let (effects, again) = taken(&stored.image, persist(9 * DAY, 6));
+    assert_eq!((effects, again.n[0]), (UTC.to_vec(), 0));
+    assert!(again.image == anchored(&stored.image, 6));
+    // a clock that is not set and holds the same setting, which only a damaged image has
     let mut unset = lent.image;
     unset[CLOCK + 2] = 0;
     let (effects, first) = taken(&unset, set(9 * DAY, 3));

@@ -120,7 +120,8 @@ fn clock() {
     let outcome = c
         .rtc_mut()
         .set_utc_time_persist(1000, TimeGranularity::Microseconds, TimeSource::GNSS, 200);
-    assert_eq!(asking(&[], outcome), Ok(false));
+    assert_eq!(asking(&UTC, outcome), Ok(false));
+    assert_eq!(c.rtc().utc_time(200), Ok(UtcTime::Reliable(1000)));
     let outcome = c
         .rtc_mut()
         .set_utc_time_persist(2 * DAY, TimeGranularity::NoTime, TimeSource::PTP, 200);

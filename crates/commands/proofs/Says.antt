@@ -1,6 +1,6 @@
 -- What a call on the clock returns and leaves.
 use mathlib.Core.Bool.{Bool, true, false, cond}
-use mathlib.Core.List.{List, [], _++_}
+use mathlib.Core.List.{List, []}
 use mathlib.Core.Option.{Option, none, some}
 use mathlib.Core.Path.{_≡_, refl, subst}
 use Prim.Native.Nat.{ℕ, zero, suc}
@@ -16,14 +16,14 @@ use Rattle.model.specs.Basics.{isSome}
 use Rattle.model.specs.Bytes.{number}
 use Rattle.model.specs.Answers.{Result, unchanged}
 use Rattle.model.specs.Codes.{returned}
-use Rattle.model.specs.Clock.{Clock, Persisted}
+use Rattle.model.specs.Clock.{Clock, Persisted, utcReports}
 use Rattle.model.specs.Handler as H
 use Rattle.model.specs.Handler.{Device, Named, ofClock, sourceReadable, sourceOfFabric, utcTimeAsked}
 use Rattle.rtc.specs.declared.UtcTimeSet.{UtcTimeSet}
 use Rattle.rtc.specs.declared.UtcTimePersisted.{UtcTimePersisted}
 use Rattle.rtc.specs.declared.Loaded.{Loaded}
 use Rattle.rtc.specs.declared.LoadAnswer.the-variants as L
-use Rattle.rtc.specs.Meaning.{clockOf, keptReports, utcTimeSetOf, utcTimePersistedOf, loadedOf}
+use Rattle.rtc.specs.Meaning.{clockOf, utcTimeSetOf, utcTimePersistedOf, loadedOf}
 use Rattle.image.specs.Layout.{isImage}
 use Rattle.image.specs.Parts.{deviceIn, withClock, newBytes, newImage}
 use Rattle.image.specs.Asked.{askedOf}
@@ -116,17 +116,13 @@ module _ {A : Type 0} (P : Result Device A → Type 0) (set : Clock → ℕ → 
 
 module _ (s : List ℕ) (d : Device) (old n : ℕ) (t : List ℕ) (m : ℕ) where
   pub set-tells : (u : UtcTimeSet) (q : Result Clock Bool) → utcTimeSetOf u ≡ q
-      → n ≡ returned 0 (keptReports (u .kept)) → t ≡ withClock s (clockOf (u .rtc)) → m ≡ truth (u .changed) → Tells truth s old n t m (ofClock d q)
+      → n ≡ returned 0 utcReports → t ≡ withClock s (clockOf (u .rtc)) → m ≡ truth (u .changed) → Tells truth s old n t m (ofClock d q)
   set-tells u q e a b f = subst (λ (x : Result Clock Bool). Tells truth s old n t m (ofClock d x)) e (a, b, f)
 
   pub persist-tells : (u : UtcTimePersisted) (q : Result Clock Persisted) → utcTimePersistedOf u ≡ q
       → n ≡ returned 0 (utcTimePersistedOf u .effects) → t ≡ withClock s (clockOf (u .rtc)) → m ≡ truth (u .changed)
       → Tells (λ p. truth (p .changed)) s old n t m (ofClock d q)
   persist-tells u q e a b f = subst (λ (x : Result Clock Persisted). Tells (λ p. truth (p .changed)) s old n t m (ofClock d x)) e (a, b, f)
-
-pub reports-only : (b : Bool) → keptReports b ≡ keptReports b ++ []
-reports-only true = refl
-reports-only false = refl
 
 -- ## Load
 

@@ -9,6 +9,7 @@ ghost use Rattle.commands.specs.Taken.{sourceTaken, setTaken, persistTak
 use crate::arguments;
 use crate::codes;
 use crate::codes::CLOCK_RESET;
+use crate::codes::UTC_REPORTED;
 use image::codes::BAD_LIMITS;
 use image::codes::INVALID_COMMAND;
 use image::codes::TAKEN;
@@ -60,7 +61,7 @@ fn utc_time_taken(image: &mut [u8], utc_us: u64, granularity: TimeGranularity, t
     let set = rtc.set_utc_time(utc_us, granularity, TimeSource::Admin, tick);
     let after = set.rtc;
     put_rtc(image, after);
-    codes::utc_time(set.kept, wakes)
+    codes::utc_time(wakes)
 }
 
 // SetTrustedTimeSource for the fabric that asks; without a named node the source is cleared.
@@ -144,7 +145,7 @@ fn rtc_set(
     let after = set.rtc;
     put_rtc(image, after);
     *changed = codes::truth(set.changed);
-    codes::reports(set.kept)
+    UTC_REPORTED
 }
 
 // The same, and has the moment stored that is a day or more from the persisted one.
@@ -191,7 +192,7 @@ fn rtc_set_persist(
     let stored = set.stored;
     put_rtc(image, after);
     *changed = codes::truth(set.changed);
-    codes::setting(set.kept, stored)
+    codes::setting(stored)
 }
 
 // ## Load and reset

@@ -6,7 +6,8 @@ ghost use Rattle.model.specs.Maybe.{optionU64};
 ghost use Rattle.model.specs.Numbers.{refusalNumber};
 ghost use Rattle.model.specs.Answers.{wakeTimer, wakeClient};
 ghost use Rattle.model.specs.Codes.{returned};
-ghost use Rattle.rtc.specs.Meaning.{keptReports, momentStored, storedEffects};
+ghost use Rattle.model.specs.Clock.{utcReports};
+ghost use Rattle.rtc.specs.Meaning.{momentStored, storedEffects};
 ghost use Rattle.table.specs.Left.{empties};
 ghost use Rattle.model.specs.Output.{truth};
 use image::codes::CONSTRAINT_ERROR;
@@ -36,8 +37,8 @@ use rtc::SourceStored;
 // Only the timer is woken.
 const TIMER_WOKEN: u64 = 256 * WAKE_TIMER;
 
-// A setting of the clock that was kept: alone, with the timer, and with the stored moment.
-const UTC_REPORTED: u64 = 256
+// A setting of the clock: alone, with the timer, and with the stored moment.
+pub(crate) const UTC_REPORTED: u64 = 256
     * (REPORT_UTC_TIME + 256 * (REPORT_GRANULARITY + 256 * REPORT_TIME_SOURCE));
 
 const UTC_REPORTED_WOKEN: u64 = 256
@@ -47,9 +48,6 @@ const UTC_REPORTED_WOKEN: u64 = 256
 const UTC_REPORTED_STORED: u64 = 256
     * (REPORT_UTC_TIME
         + 256 * (REPORT_GRANULARITY + 256 * (REPORT_TIME_SOURCE + 256 * STORE_MOMENT)));
-
-// Only the moment is stored.
-const MOMENT_STORED: u64 = 256 * STORE_MOMENT;
 
 // SetTrustedTimeSource: the source is equal, another, or none.
 const SOURCE_SAME: u64 = 256 * WAKE_CLIENT;
@@ -74,44 +72,23 @@ pub(crate) const DST_OFFSET_SET: u64 = 256
 // A reset of the lists: the record is removed before the timer is woken.
 pub(crate) const LISTS_RESET: u64 = 256 * (REMOVE_RECORD + 256 * WAKE_TIMER);
 
-// SetUTCTime: what is reported where the setting was kept, then the timer.
-pub(crate) fn utc_time(kept: bool, wakes: bool) -> u64
-    ensures { λ r. ⌜ r ≡ returned 0 (keptReports kept ++ when wakes wakeTimer) ⌝ }
+// SetUTCTime: what is reported, then the timer.
+pub(crate) fn utc_time(wakes: bool) -> u64
+    ensures { λ r. ⌜ r ≡ returned 0 (utcReports ++ when wakes wakeTimer) ⌝ }
 {
-    if kept {
-        if wakes {
-            return UTC_REPORTED_WOKEN;
-        }
-        return UTC_REPORTED;
-    }
     if wakes {
-        return TIMER_WOKEN;
+        return UTC_REPORTED_WOKEN;
     }
-    TAKEN
+    UTC_REPORTED
 }
 
-// What is reported where a setting was kept.
-pub(crate) fn reports(kept: bool) -> u64
-    ensures { λ r. ⌜ r ≡ returned 0 (keptReports kept) ⌝ }
-{
-    if kept {
-        return UTC_REPORTED;
-    }
-    TAKEN
-}
-
-// A setting of the clock: what is reported where it was kept, then the moment that is stored.
-pub(crate) fn setting(kept: bool, stored: MaybeU64) -> u64
-    ensures { λ r. ⌜ r ≡ returned 0 (keptReports kept ++ momentStored (optionU64 stored)) ⌝ }
+// A setting of the clock: what is reported, then the moment that is stored.
+pub(crate) fn setting(stored: MaybeU64) -> u64
+    ensures { λ r. ⌜ r ≡ returned 0 (utcReports ++ momentStored (optionU64 stored)) ⌝ }
 {
     match stored {
-        MaybeU64::Nothing => reports(kept),
-        MaybeU64::Is(_) => {
-            if kept {
-                return UTC_REPORTED_STORED;
-            }
-            MOMENT_STORED
-        }
+        MaybeU64::Nothing => UTC_REPORTED,
+        MaybeU64::Is(_) => UTC_REPORTED_STORED,
     }
 }
 

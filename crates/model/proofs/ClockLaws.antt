@@ -1,53 +1,62 @@
 -- What a clock reads after a setting and after a load, and what stays stored.
-use mathlib.Core.Bool.{Bool, true, false, not, _||_}
+use mathlib.Core.Bool.{true}
 use mathlib.Core.Option.{Option, none, some}
 use mathlib.Core.Path.{_≡_, refl, ap, _∙_}
 use Prim.Native.Nat.{ℕ, _≤_}
 use native.Mathlib.Omega.{arith}
-use borrow.Author.Tests.{eqb-true, leb-false, not-false}
+use borrow.Author.Tests.{eqb-true, leb-false}
 use lib.Dec.{eqb}
 use Rattle.model.specs.declared.TimeGranularity.{TimeGranularity}
 use Rattle.model.specs.declared.TimeGranularity.the-variants.{Milliseconds}
 use Rattle.model.specs.declared.TimeSource.{TimeSource}
-use Rattle.model.specs.Basics.{isSome}
+use Rattle.model.specs.declared.TimeSource.the-variants.{Admin, NodeTimeCluster}
 use Rattle.model.specs.Answers.{TrustedSource}
-use Rattle.model.specs.Numbers.{granularityNumber, granularityOf}
-use Rattle.model.specs.Clock.{Clock, reliable, reading, storedUtc, noFabric, load, granularityRead, lowered, changes, isKept, setUtcTime, distance, aDayApart, setUtcTimePersist, sameSource, setTrustedTimeSource, setTrustedTimeSourcePersist}
-use Rattle.model.specs.ClockLaws.{SettingReadsBack, ReadsLowered, EndsAtSeconds, SettingKeepsSource, OnlySource, SourceChangeKeepsRest, NeverBelowBuild, WithinADay}
+use Rattle.model.specs.Numbers.{granularityOf}
+use Rattle.model.specs.Clock.{Clock, reliable, reading, storedUtc, noFabric, load, granularityRead, setUtcTime, distance, aDayApart, setUtcTimePersist, sameSource, setTrustedTimeSource, setTrustedTimeSourcePersist}
+use Rattle.model.specs.Handler.{Device, sourceReadable, setUTCTime}
+use Rattle.model.specs.Retries.{Client, Applied, attemptOf}
+use Rattle.model.specs.ClockLaws.{IsSet, EverySetting, SettingReadsBack, ReadsLowered, EndsAtSeconds, SettingKeepsSource, OnlySource, SourceChangeKeepsRest, NeverBelowBuild, WithinADay}
 use Rattle.model.proofs.Facts.{by-test, and-both}
-use Rattle.model.proofs.NumbersBack.{numbers-back}
+
+-- ## Settings
+
+module _ (c : Clock) (utc : ℕ) (g : TimeGranularity) (s : TimeSource) (tick : ℕ) where
+  is-set : IsSet utc g s tick (setUtcTime c utc g s tick .state) (setUtcTime c utc g s tick .effects)
+  unfolding setUtcTime
+  is-set = record { utc = refl; granularity = refl; from = refl; anchor = refl; reported = refl }
+
+  -- the persisted moment is another matter
+  is-set-persist : IsSet utc g s tick (setUtcTimePersist c utc g s tick .state) (setUtcTimePersist c utc g s tick .effects)
+  unfolding setUtcTimePersist setUtcTime
+  is-set-persist =
+      by-test (aDayApart c utc)
+      (λ e. rw e (record { utc = refl; granularity = refl; from = refl; anchor = refl; reported = refl }))
+      (λ e. rw e (record { utc = refl; granularity = refl; from = refl; anchor = refl; reported = refl }))
+
+command-is-set : (d : Device) (utc number : ℕ) (g : TimeGranularity) (source : Option ℕ) (tick : ℕ)
+    → granularityOf number ≡ some g → sourceReadable source ≡ true
+    → IsSet utc g Admin tick (setUTCTime d utc number source tick .state .clock) (setUTCTime d utc number source tick .effects)
+unfolding setUTCTime setUtcTime
+command-is-set d utc number g source tick e f =
+    rw (e, f) (record { utc = refl; granularity = refl; from = refl; anchor = refl; reported = refl })
+
+applied-is-set : (c : Client) (k : Clock) (utc : ℕ) (g : TimeGranularity) (tick : ℕ)
+    → IsSet utc g NodeTimeCluster tick (attemptOf c k (Applied utc g) tick .clock) (attemptOf c k (Applied utc g) tick .effects)
+unfolding attemptOf setUtcTimePersist setUtcTime
+applied-is-set c k utc g tick =
+    let p = is-set-persist k utc g NodeTimeCluster tick in
+    record { utc = p .utc; granularity = p .granularity; from = p .from; anchor = p .anchor; reported = refl }
+
+pub every-setting : EverySetting
+every-setting = record { set = is-set; setPersist = is-set-persist; command = command-is-set; applied = applied-is-set }
 
 pub setting-reads-back : SettingReadsBack
 unfolding setUtcTime reading
-setting-reads-back c utc g s tick k h = rw k (ap reliable (omega arith))
-
--- ## Granularity
-
-same-granularity : (g h : TimeGranularity) → granularityNumber g ≡ granularityNumber h → g ≡ h
-same-granularity g h e =
-    let p = numbers-back .granularity g in
-    let q = numbers-back .granularity h in
-    let r = ap granularityOf e in
-    cc
-
-neither : (a b : Bool) → a || b ≡ false → (a ≡ false) × (b ≡ false)
-neither true b e = let z : _≡_ {A = ℕ} 0 1 = cc in absurd (omega arith)
-neither false b e = (refl, e)
-
-unchanged-granularity : (c : Clock) (utc : ℕ) (g : TimeGranularity) (s : TimeSource) → changes c utc g s ≡ false → c .granularity ≡ lowered g
-unfolding changes
-unchanged-granularity c utc g s e =
-    let same = eqb (granularityNumber (c .granularity)) (granularityNumber (lowered g)) in
-    let n = neither (not same) _ (neither (not (eqb (c .utc) utc)) _ e .1) in
-    same-granularity _ _ (eqb-true _ _ (not-false same (n .0)))
+setting-reads-back c utc g s tick h = ap reliable (omega arith)
 
 pub reads-lowered : ReadsLowered
-unfolding setUtcTime granularityRead isKept
-reads-lowered c utc g s tick =
-    by-test (isKept c utc g s) (λ e. rw e)
-    (λ e. let n = neither (changes c utc g s) _ e in
-    let anchored = not-false (isSome (c .anchor)) (n .1) in
-    rw (e, anchored) (unchanged-granularity c utc g s (n .0)))
+unfolding setUtcTime granularityRead
+reads-lowered c utc g s tick = refl
 
 pub ends-at-seconds : EndsAtSeconds
 unfolding setUtcTimePersist granularityRead
@@ -59,7 +68,7 @@ ends-at-seconds c utc s tick =
 
 source-kept : (c : Clock) (utc : ℕ) (g : TimeGranularity) (s : TimeSource) (tick : ℕ) → setUtcTime c utc g s tick .state .trusted ≡ c .trusted
 unfolding setUtcTime
-source-kept c utc g s tick = by-test (isKept c utc g s) (λ e. rw e) (λ e. rw e)
+source-kept c utc g s tick = refl
 
 pub setting-keeps-source : SettingKeepsSource
 unfolding setUtcTimePersist
@@ -107,7 +116,7 @@ never-below-build build c moment source tick h =
 
 persisted-kept : (c : Clock) (utc : ℕ) (g : TimeGranularity) (s : TimeSource) (tick : ℕ) → setUtcTime c utc g s tick .state .persisted ≡ c .persisted
 unfolding setUtcTime
-persisted-kept c utc g s tick = by-test (isKept c utc g s) (λ e. rw e) (λ e. rw e)
+persisted-kept c utc g s tick = refl
 
 pub within-a-day : WithinADay
 unfolding setUtcTimePersist aDayApart

@@ -18,7 +18,7 @@ use Rattle.model.specs.Bytes.{readWindows}
 use Rattle.model.specs.History.{SetTimeZone, Load, verdict}
 use Rattle.model.specs.Lookups.{activeZone, activeOffset}
 use Rattle.model.specs.Clock as C
-use Rattle.model.specs.Clock.{Clock, Reading, reliable, lastKnown, noFabric, isKept, utcReports, setUtcTime, aDayApart, setUtcTimePersist, sameSource, sourceInFlash}
+use Rattle.model.specs.Clock.{Clock, Reading, reliable, lastKnown, noFabric, setUtcTime, aDayApart, setUtcTimePersist, sameSource, sourceInFlash}
 use Rattle.model.specs.Store as T
 use Rattle.model.specs.Store.{Store}
 use Rattle.model.specs.Handler as H
@@ -34,13 +34,9 @@ one false x = lit≤ tt
 
 -- ## The clock
 
-reports : (b : Bool) → length (cond b utcReports []) ≤ 3
-reports true = lit≤ tt
-reports false = lit≤ tt
-
 set-few : (c : Clock) (utc : ℕ) (g : TimeGranularity) (s : TimeSource) (tick : ℕ) → length (setUtcTime c utc g s tick .effects) ≤ 3
 unfolding setUtcTime
-set-few c utc g s tick = reports (isKept c utc g s)
+set-few c utc g s tick = lit≤ tt
 
 persist-few : (c : Clock) (utc : ℕ) (g : TimeGranularity) (s : TimeSource) (tick : ℕ) → length (setUtcTimePersist c utc g s tick .effects) ≤ 4
 unfolding setUtcTimePersist

@@ -119,14 +119,9 @@ mark-stays timeFailure c k = refl
 -- ## Emissions
 
 -- setting the clock emits nothing
-pub keep-reports : (kind : Kind) (kept : Bool) → keep (emits kind) (cond kept utcReports []) ≡ []
-unfolding keep
-keep-reports kind true = refl
-keep-reports kind false = refl
-
 clock-silent : (kind : Kind) (k : Clock) (r : Refresh) (tick : ℕ) → keep (emits kind) (clockEffects k r tick) ≡ []
 unfolding setUtcTimePersist setUtcTime keep
-clock-silent kind k (Applied utc g) tick = simp (keep-append, keep-reports, keep-when)
+clock-silent kind k (Applied utc g) tick = simp keep-when
 clock-silent kind k NoTime tick = refl
 clock-silent kind k NoSource tick = refl
 clock-silent kind k Failure tick = refl

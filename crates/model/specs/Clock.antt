@@ -113,10 +113,6 @@ changes c utc g s =
     || (not (eqb (granularityNumber (c .granularity)) (granularityNumber (lowered g)))
     || not (eqb (sourceNumber (c .source)) (sourceNumber s)))
 
--- kept: the setting changes something, or the clock had no anchor
-unfoldable pub isKept : Clock → ℕ → TimeGranularity → TimeSource → Bool
-isKept c utc g s = changes c utc g s || not (isSome (c .anchor))
-
 -- the clock with a setting, anchored at the tick
 abbrev pub setTo : Clock → ℕ → TimeGranularity → TimeSource → ℕ → Clock
 setTo c utc g s tick =
@@ -129,17 +125,17 @@ setTo c utc g s tick =
       trusted = c .trusted;
     }
 
--- the three attributes that a kept setting reports
+-- the three attributes that a setting reports
 abbrev pub utcReports : List Effect
 utcReports = report UTCTime ∷ report Granularity ∷ report Attribute.TimeSource ∷ []
 
--- it answers whether something changed
+-- every setting moves the anchor to the tick and is reported, an equal one too; it answers whether something changed
 unfoldable pub setUtcTime : Clock → ℕ → TimeGranularity → TimeSource → ℕ → Result Clock Bool
 setUtcTime c utc g s tick =
     record {
-      state = cond (isKept c utc g s) (setTo c utc g s tick) c;
+      state = setTo c utc g s tick;
       answer = answers (changes c utc g s);
-      effects = cond (isKept c utc g s) utcReports [];
+      effects = utcReports;
     }
 
 -- ## Setting and storing (`set_utc_time_persist`)
@@ -147,7 +143,7 @@ setUtcTime c utc g s tick =
 abbrev pub distance : ℕ → ℕ → ℕ
 distance a b = (a - b) + (b - a)
 
--- a day or more lies between the persisted moment and the new one, kept or not
+-- a day or more lies between the persisted moment and the new one, changed or not
 unfoldable pub aDayApart : Clock → ℕ → Bool
 aDayApart c utc = leb 86400000000 (distance (c .persisted) utc)
 
@@ -162,10 +158,9 @@ withPersisted c utc =
       trusted = c .trusted;
     }
 
--- what it answers: whether something changed, whether it was kept and reported, and whether the moment is stored
+-- what it answers: whether something changed, and whether the moment is stored
 pub record Persisted : Type 0 where
   pub changed : Bool
-  pub kept : Bool
   pub stored : Bool
 
 -- stores a moment that is a day or more from the persisted one, which it then replaces
@@ -173,7 +168,7 @@ unfoldable pub setUtcTimePersist : Clock → ℕ → TimeGranularity → TimeSou
 setUtcTimePersist c utc g s tick =
     record {
       state = cond (aDayApart c utc) (withPersisted (setUtcTime c utc g s tick .state) utc) (setUtcTime c utc g s tick .state);
-      answer = answers (record { changed = changes c utc g s; kept = isKept c utc g s; stored = aDayApart c utc });
+      answer = answers (record { changed = changes c utc g s; stored = aDayApart c utc });
       effects = setUtcTime c utc g s tick .effects ++ when (aDayApart c utc) (storeMoment utc);
     }
 
@@ -197,7 +192,7 @@ withTrusted c source =
       trusted = source;
     }
 
--- `set_trusted_time_source`: a different source is kept and reported, and clearing one emits MissingTrustedTimeSource
+-- `set_trusted_time_source`: a different source is taken and reported, and clearing one emits MissingTrustedTimeSource
 unfoldable pub setTrustedTimeSource : Clock → Option TrustedSource → Result Clock (Unit {0})
 setTrustedTimeSource c source =
     record {

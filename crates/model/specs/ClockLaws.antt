@@ -1,24 +1,50 @@
 -- What holds of the clock. The proofs stand in proofs/ClockLaws.antt; that a clock never reads less at a later tick is `NeverBack` in Claims.
 use mathlib.Core.Bool.{true}
-use mathlib.Core.Option.{Option}
+use mathlib.Core.List.{List}
+use mathlib.Core.Option.{Option, some}
 use mathlib.Core.Path.{_≡_}
 use Prim.Native.Nat.{ℕ, _≤_, _<_}
+use lib.ListN.{take}
 use Rattle.model.specs.declared.TimeGranularity.{TimeGranularity}
 use Rattle.model.specs.declared.TimeGranularity.the-variants.{Seconds, Milliseconds}
 use Rattle.model.specs.declared.TimeSource.{TimeSource}
+use Rattle.model.specs.declared.TimeSource.the-variants.{Admin, NodeTimeCluster}
+use Rattle.model.specs.Numbers.{granularityOf}
 use Rattle.model.specs.Basics.{top}
-use Rattle.model.specs.Answers.{done, TrustedSource}
-use Rattle.model.specs.Clock.{Clock, Reading, reliable, lastKnown, reading, load, granularityRead, lowered, isKept, setUtcTime, distance, setUtcTimePersist, setTrustedTimeSource, setTrustedTimeSourcePersist}
+use Rattle.model.specs.Answers.{done, TrustedSource, Effect}
+use Rattle.model.specs.Clock.{Clock, Reading, reliable, lastKnown, reading, load, granularityRead, lowered, utcReports, setUtcTime, distance, setUtcTimePersist, setTrustedTimeSource, setTrustedTimeSourcePersist}
+use Rattle.model.specs.Handler.{Device, sourceReadable, setUTCTime}
+use Rattle.model.specs.Retries.{Client, Applied, attemptOf}
 
 -- ## Settings and readings
 
--- a setting that is kept reads back at its tick
+-- the clock `d` is set to this and anchored at the tick, and the three attributes are reported first
+pub record IsSet (moment : ℕ) (g : TimeGranularity) (s : TimeSource) (tick : ℕ) (d : Clock) (effects : List Effect) : Type 0 where
+  pub utc : d .utc ≡ moment
+  pub granularity : d .granularity ≡ lowered g
+  pub from : d .source ≡ s
+  pub anchor : d .anchor ≡ some tick
+  pub reported : take 3 effects ≡ utcReports
+
+-- whatever the clock was, an equal setting too: by both settings, by a SetUTCTime that is readable, and by a reading that the client applies
+pub record EverySetting : Type 0 where
+  pub set : (c : Clock) (utc : ℕ) (g : TimeGranularity) (s : TimeSource) (tick : ℕ)
+      → IsSet utc g s tick (setUtcTime c utc g s tick .state) (setUtcTime c utc g s tick .effects)
+  pub setPersist : (c : Clock) (utc : ℕ) (g : TimeGranularity) (s : TimeSource) (tick : ℕ)
+      → IsSet utc g s tick (setUtcTimePersist c utc g s tick .state) (setUtcTimePersist c utc g s tick .effects)
+  pub command : (d : Device) (utc number : ℕ) (g : TimeGranularity) (source : Option ℕ) (tick : ℕ)
+      → granularityOf number ≡ some g → sourceReadable source ≡ true
+      → IsSet utc g Admin tick (setUTCTime d utc number source tick .state .clock) (setUTCTime d utc number source tick .effects)
+  pub applied : (c : Client) (k : Clock) (utc : ℕ) (g : TimeGranularity) (tick : ℕ)
+      → IsSet utc g NodeTimeCluster tick (attemptOf c k (Applied utc g) tick .clock) (attemptOf c k (Applied utc g) tick .effects)
+
+-- a setting reads back at its tick
 abbrev pub SettingReadsBack : Type 0
 SettingReadsBack =
     (c : Clock) (utc : ℕ) (g : TimeGranularity) (s : TimeSource) (tick : ℕ)
-    → isKept c utc g s ≡ true → utc ≤ top → reading (setUtcTime c utc g s tick .state) tick ≡ reliable utc
+    → utc ≤ top → reading (setUtcTime c utc g s tick .state) tick ≡ reliable utc
 
--- after a setting, kept or not, the granularity reads one step lower
+-- after a setting the granularity reads one step lower
 abbrev pub ReadsLowered : Type 0
 ReadsLowered =
     (c : Clock) (utc : ℕ) (g : TimeGranularity) (s : TimeSource) (tick : ℕ)

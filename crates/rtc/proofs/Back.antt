@@ -1,19 +1,19 @@
 -- Equal meanings are of equal values.
-use mathlib.Core.Bool.{true, false}
-use mathlib.Core.List.{_++_, append-cancel-left}
+use mathlib.Core.List.{append-cancel-left}
 use mathlib.Core.Option.{none, some}
 use mathlib.Core.Path.{_≡_, refl, sym, ap, _∙_}
 use Rattle.model.specs.declared.MaybeU64.{MaybeU64}
 use Rattle.model.specs.declared.MaybeU64.the-variants as U
 use Rattle.model.specs.Maybe.{optionU64, maybeU64}
 use Rattle.model.specs.Answers.{Answer, answers}
+use Rattle.model.specs.Clock.{utcReports}
 use Rattle.rtc.specs.declared.MaybeSource.{MaybeSource}
 use Rattle.rtc.specs.declared.MaybeSource.the-variants as M
 use Rattle.rtc.specs.declared.UtcTime.the-variants.{Reliable, LastKnown}
 use Rattle.rtc.specs.declared.LoadAnswer.the-variants as L
 use Rattle.rtc.specs.declared.SourceChange.the-variants as C
 use Rattle.rtc.specs.declared.SourceStored.the-variants as S
-use Rattle.rtc.specs.Meaning.{trustedOf, optionSource, clockOf, trustedTimeSourceOf, maybeSource, rtcOf, readingOf, loadAnswerOf, keptReports, momentStored, utcTimePersistedOf, changeEffects, storedEffects}
+use Rattle.rtc.specs.Meaning.{trustedOf, optionSource, clockOf, trustedTimeSourceOf, maybeSource, rtcOf, readingOf, loadAnswerOf, momentStored, utcTimePersistedOf, changeEffects, storedEffects}
 use Rattle.rtc.specs.Laws.{RtcBack, Injective, OneResult}
 
 -- ## The clock
@@ -58,12 +58,6 @@ one-answer L.Done (L.Refused r) e = cc
 one-answer (L.Refused q) L.Done e = cc
 one-answer (L.Refused q) (L.Refused r) e = cc
 
-pub one-kept : Injective keptReports
-one-kept true true e = cc
-one-kept true false e = cc
-one-kept false true e = cc
-one-kept false false e = cc
-
 one-stored : Injective momentStored
 one-stored none none e = cc
 one-stored none (some n) e = cc
@@ -97,13 +91,10 @@ one-storing S.Removed S.Removed e = cc
 one-persisted : Injective utcTimePersistedOf
 one-persisted a b e =
     let said = one-value (ap (λ r. r .answer) e) in
-    let kept : a .kept ≡ b .kept = ap (λ r. r .kept) said in
-    let effects : keptReports (b .kept) ++ momentStored (optionU64 (a .stored)) ≡ keptReports (b .kept) ++ momentStored (optionU64 (b .stored)) = rw kept at (ap (λ r. r .effects) e) in
-    let stored = one-stored (optionU64 (a .stored)) (optionU64 (b .stored)) (append-cancel-left (keptReports (b .kept)) _ _ effects) in
+    let stored = one-stored (optionU64 (a .stored)) (optionU64 (b .stored)) (append-cancel-left utcReports _ _ (ap (λ r. r .effects) e)) in
     λ i. record {
       rtc = one-rtc (a .rtc) (b .rtc) (ap (λ r. r .state) e) i;
       changed = said i .changed;
-      kept = said i .kept;
       stored = one-moment (a .stored) (b .stored) stored i;
     }
 
@@ -122,7 +113,6 @@ one-result =
       utcTimeSet = λ a b e i. record {
         rtc = one-rtc (a .rtc) (b .rtc) (ap (λ r. r .state) e) i;
         changed = one-value (ap (λ r. r .answer) e) i;
-        kept = one-kept (a .kept) (b .kept) (ap (λ r. r .effects) e) i;
       };
       utcTimePersisted = one-persisted;
       sourceSet = λ a b e i. record {

@@ -1,5 +1,5 @@
 -- What the records of this crate stand for in the definitions. Each is injective, so a contract that equates meanings leaves one result.
-use mathlib.Core.Bool.{Bool, not, cond}
+use mathlib.Core.Bool.{Bool, not}
 use mathlib.Core.List.{List, [], _∷_, _++_}
 use mathlib.Core.Option.{Option, none, some}
 use Prim.Native.Nat.{ℕ}
@@ -91,26 +91,22 @@ loadAnswerOf (L.Refused cause) = refused cause
 abbrev pub loadedOf : Loaded → Result Clock (Unit {0})
 loadedOf r = record { state = clockOf (r .rtc); answer = loadAnswerOf (r .answer); effects = [] }
 
--- the reports of a setting that was kept
-abbrev pub keptReports : Bool → List Effect
-keptReports kept = cond kept utcReports []
-
--- a setting answers whether something changed, and reports where it was kept
+-- a setting answers whether something changed, and always reports
 abbrev pub utcTimeSetOf : UtcTimeSet → Result Clock Bool
-utcTimeSetOf r = record { state = clockOf (r .rtc); answer = answers (r .changed); effects = keptReports (r .kept) }
+utcTimeSetOf r = record { state = clockOf (r .rtc); answer = answers (r .changed); effects = utcReports }
 
 -- the moment that is to be stored, if there is one
 abbrev pub momentStored : Option ℕ → List Effect
 momentStored none = []
 momentStored (some moment) = storeMoment moment ∷ []
 
--- a persisting setting answers all three, reports where it was kept, then stores
+-- a persisting setting answers whether something changed and whether the moment is stored; it reports, then stores
 abbrev pub utcTimePersistedOf : UtcTimePersisted → Result Clock Persisted
 utcTimePersistedOf r =
     record {
       state = clockOf (r .rtc);
-      answer = answers (record { changed = r .changed; kept = r .kept; stored = isSome (optionU64 (r .stored)) });
-      effects = keptReports (r .kept) ++ momentStored (optionU64 (r .stored));
+      answer = answers (record { changed = r .changed; stored = isSome (optionU64 (r .stored)) });
+      effects = utcReports ++ momentStored (optionU64 (r .stored));
     }
 
 -- what a different source reports, and emits where it is none

@@ -57,18 +57,16 @@ pub struct Loaded {
     pub answer: LoadAnswer,
 }
 
-// The clock after a setting, whether something changed, and whether the setting was kept and is to be reported.
+// The clock after a setting, which is always to be reported, and whether something changed.
 pub struct UtcTimeSet {
     pub rtc: Rtc,
     pub changed: bool,
-    pub kept: bool,
 }
 
 // The same, with the moment that is to be stored.
 pub struct UtcTimePersisted {
     pub rtc: Rtc,
     pub changed: bool,
-    pub kept: bool,
     pub stored: MaybeU64,
 }
 

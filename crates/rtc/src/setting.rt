@@ -1,9 +1,7 @@
 // Setting the UTC time.
 ghost use mathlib.Core.Path.{_≡_};
 ghost use lib.Dec.{eqb};
-ghost use Rattle.model.specs.Basics.{isSome};
 ghost use Rattle.model.specs.Numbers.{granularityNumber, sourceNumber};
-ghost use Rattle.model.specs.Maybe.{optionU64};
 ghost use Rattle.model.specs.Clock.{lowered, changes, setTo, setUtcTime, distance, setUtcTimePersist};
 ghost use Rattle.rtc.specs.Meaning.{clockOf, utcTimeSetOf, utcTimePersistedOf};
 use crate::Rtc;
@@ -17,7 +15,7 @@ use model::TimeSource;
 const DELTA: u64 = 24 * 60 * 60 * 1_000_000;
 
 impl Rtc {
-    // Sets the UTC time and anchors it at the tick, where something changes or the clock is not set.
+    // Sets the UTC time and anchors it at the tick, also where nothing changes.
     pub fn set_utc_time(
         self,
         utc_us: u64,
@@ -28,18 +26,9 @@ impl Rtc {
         ensures { λ r. ⌜ utcTimeSetOf r ≡ setUtcTime (clockOf self) «utc_us» granularity source tick ⌝ }
     {
         let changed = self.changes(utc_us, granularity, source);
-        let anchor = self.anchor;
-        if changed || !is_set(anchor) {
-            return UtcTimeSet {
-                rtc: self.set_to(utc_us, granularity, source, tick),
-                changed: changed,
-                kept: true,
-            };
-        }
         UtcTimeSet {
-            rtc: self,
-            changed: false,
-            kept: false,
+            rtc: self.set_to(utc_us, granularity, source, tick),
+            changed: changed,
         }
     }
 
@@ -61,14 +50,12 @@ impl Rtc {
             return UtcTimePersisted {
                 rtc: rtc,
                 changed: set.changed,
-                kept: set.kept,
                 stored: MaybeU64::Is(utc_us),
             };
         }
         UtcTimePersisted {
             rtc: rtc,
             changed: set.changed,
-            kept: set.kept,
             stored: MaybeU64::Nothing,
         }
     }
@@ -98,16 +85,6 @@ impl Rtc {
             anchor: anchor,
             trusted_time_source: trusted_time_source,
         }
-    }
-}
-
-// Whether a clock with this anchor is set.
-fn is_set(anchor: MaybeU64) -> bool
-    ensures { λ r. ⌜ r ≡ isSome (optionU64 anchor) ⌝ }
-{
-    match anchor {
-        MaybeU64::Nothing => false,
-        MaybeU64::Is(_) => true,
     }
 }
 

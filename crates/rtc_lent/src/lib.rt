@@ -11,23 +11,10 @@ use rtc::MaybeSource;
 use rtc::Rtc;
 use rtc::SourceStored;
 
-// What a setting answers: whether something changed, and whether it was kept and is to be reported.
-pub struct UtcTimeAnswer {
-    pub changed: bool,
-    pub kept: bool,
-}
-
-// The same, with the moment that is to be stored.
+// What a persisting setting answers: whether something changed, and the moment that is to be stored.
 pub struct UtcTimePersistAnswer {
     pub changed: bool,
-    pub kept: bool,
     pub stored: MaybeU64,
-}
-
-// The clock after a setting, beside its answer.
-struct AfterSetting {
-    rtc: Rtc,
-    answer: UtcTimeAnswer,
 }
 
 // The clock after a persisting setting, beside its answer.
@@ -56,21 +43,21 @@ pub fn load_persist(rtc: &mut Rtc, build: u64, stored: MaybeU64, source: MaybeSo
     done.answer
 }
 
-// Sets the UTC time and anchors it at the tick, where something changes or the clock is not set.
+// Sets the UTC time and anchors it at the tick, also where nothing changes; answers whether something did.
 pub fn set_utc_time(
     rtc: &mut Rtc,
     utc_us: u64,
     granularity: TimeGranularity,
     source: TimeSource,
     tick: u64,
-) -> UtcTimeAnswer
-    ensures { λ r. ⌜ utcTimeSetOf (record { rtc = now (rtc .exit); changed = r .changed; kept = r .kept })
+) -> bool
+    ensures { λ r. ⌜ utcTimeSetOf (record { rtc = now (rtc .exit); changed = r })
         ≡ setUtcTime (clockOf (now (rtc .entry))) «utc_us» granularity source tick ⌝ }
 {
     let was = *rtc;
-    let done = after_setting(was, utc_us, granularity, source, tick);
+    let done = was.set_utc_time(utc_us, granularity, source, tick);
     *rtc = done.rtc;
-    done.answer
+    done.changed
 }
 
 // Sets the UTC time, and has a moment stored that is a day or more from the persisted one.
@@ -81,7 +68,7 @@ pub fn set_utc_time_persist(
     source: TimeSource,
     tick: u64,
 ) -> UtcTimePersistAnswer
-    ensures { λ r. ⌜ utcTimePersistedOf (record { rtc = now (rtc .exit); changed = r .changed; kept = r .kept; stored = r .stored })
+    ensures { λ r. ⌜ utcTimePersistedOf (record { rtc = now (rtc .exit); changed = r .changed; stored = r .stored })
         ≡ setUtcTimePersist (clockOf (now (rtc .entry))) «utc_us» granularity source tick ⌝ }
 {
     let was = *rtc;
@@ -101,28 +88,6 @@ pub fn set_trusted_time_source_persist(rtc: &mut Rtc, source: MaybeSource) -> So
     done.stored
 }
 
-// A setting, its answer gathered in one field.
-fn after_setting(
-    rtc: Rtc,
-    utc_us: u64,
-    granularity: TimeGranularity,
-    source: TimeSource,
-    tick: u64,
-) -> AfterSetting
-    ensures { λ r. ⌜ utcTimeSetOf (record { rtc = r .rtc; changed = r .answer .changed; kept = r .answer .kept })
-        ≡ setUtcTime (clockOf rtc) «utc_us» granularity source tick ⌝ }
-{
-    let set = rtc.set_utc_time(utc_us, granularity, source, tick);
-    let after = set.rtc;
-    AfterSetting {
-        rtc: after,
-        answer: UtcTimeAnswer {
-            changed: set.changed,
-            kept: set.kept,
-        },
-    }
-}
-
 // A persisting setting, its answer gathered in one field.
 fn after_persisting(
     rtc: Rtc,
@@ -131,7 +96,7 @@ fn after_persisting(
     source: TimeSource,
     tick: u64,
 ) -> AfterPersisting
-    ensures { λ r. ⌜ utcTimePersistedOf (record { rtc = r .rtc; changed = r .answer .changed; kept = r .answer .kept; stored = r .answer .stored })
+    ensures { λ r. ⌜ utcTimePersistedOf (record { rtc = r .rtc; changed = r .answer .changed; stored = r .answer .stored })
         ≡ setUtcTimePersist (clockOf rtc) «utc_us» granularity source tick ⌝ }
 {
     let done = rtc.set_utc_time_persist(utc_us, granularity, source, tick);
@@ -141,7 +106,6 @@ fn after_persisting(
         rtc: after,
         answer: UtcTimePersistAnswer {
             changed: done.changed,
-            kept: done.kept,
             stored: stored,
         },
     }

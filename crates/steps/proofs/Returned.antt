@@ -9,7 +9,8 @@ use Rattle.model.specs.Basics.{isSome, when}
 use Rattle.model.specs.Answers.{Attribute, UTCTime, Granularity, Event, Effect, report, emit, storeMoment}
 use Rattle.model.specs.Bytes.{number}
 use Rattle.model.specs.Codes.{effectCode, returned}
-use Rattle.rtc.specs.Meaning.{momentStored, keptReports}
+use Rattle.model.specs.Clock.{utcReports}
+use Rattle.rtc.specs.Meaning.{momentStored}
 use Rattle.steps.specs.Effects.{codesOf}
 
 -- one more effect in front, where it is due
@@ -37,10 +38,10 @@ refused-is n = omega arith
 
 -- ## A step of the client
 
--- the three reports of a setting that was kept
-pub reports-each : (kept : Bool) (m es : List Effect) {rest third second r : ℕ}
-    → rest ≡ codesOf (m ++ es) → third ≡ cond kept (0x12 + 256 * rest) rest → second ≡ cond kept (0x11 + 256 * third) third → r ≡ cond kept (0x10 + 256 * second) second
-    → r ≡ codesOf ((keptReports kept ++ m) ++ es)
+-- the three reports of a time that was applied
+pub reports-each : (applied : Bool) (m es : List Effect) {rest third second r : ℕ}
+    → rest ≡ codesOf (m ++ es) → third ≡ cond applied (0x12 + 256 * rest) rest → second ≡ cond applied (0x11 + 256 * third) third → r ≡ cond applied (0x10 + 256 * second) second
+    → r ≡ codesOf ((cond applied utcReports [] ++ m) ++ es)
 reports-each true m es p a b c =
     let source = report Attribute.TimeSource ∷ (m ++ es) in
     first-is true (report UTCTime) (report Granularity ∷ source) (first-is true (report Granularity) source (first-is true (report Attribute.TimeSource) (m ++ es) p a) b) c

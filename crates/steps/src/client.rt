@@ -109,9 +109,9 @@ fn step_number(e: Effects) -> u64
         failure,
     );
     let moment = with_first(is_there(stored), STORE_MOMENT, events);
-    let source = with_first(e.kept, REPORT_TIME_SOURCE, moment);
-    let granularity = with_first(e.kept, REPORT_GRANULARITY, source);
-    taken(with_first(e.kept, REPORT_UTC_TIME, granularity))
+    let source = with_first(e.applied, REPORT_TIME_SOURCE, moment);
+    let granularity = with_first(e.applied, REPORT_GRANULARITY, source);
+    taken(with_first(e.applied, REPORT_UTC_TIME, granularity))
 }
 
 // The step of an attempt by the client and the clock of an image.

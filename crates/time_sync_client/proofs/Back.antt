@@ -1,5 +1,5 @@
 -- Equal meanings are of equal values.
-use mathlib.Core.Bool.{Bool, true, false}
+use mathlib.Core.Bool.{Bool, true, false, cond}
 use mathlib.Core.List.{[], append-nil, append-cancel-right}
 use mathlib.Core.Option.{Option, none, some}
 use mathlib.Core.Path.{_≡_, refl, sym, ap, _∙_}
@@ -7,10 +7,11 @@ use Prim.Native.Nat.{ℕ}
 use Rattle.model.specs.Basics.{when, keep}
 use Rattle.model.specs.Maybe.{optionU64}
 use Rattle.model.specs.Answers.{emit}
+use Rattle.model.specs.Clock.{utcReports}
 use Rattle.model.specs.Retries as R
 use Rattle.model.specs.RetryLaws.{Kind, missingSource, timeFailure, eventOf, emits}
 use Rattle.model.proofs.Facts.{keep-append, keep-when}
-use Rattle.model.proofs.RetryLaws.{keep-reports, pick}
+use Rattle.model.proofs.RetryLaws.{pick}
 use Rattle.rtc.specs.Meaning.{momentStored}
 use Rattle.rtc.specs.Laws.{Injective}
 use Rattle.rtc.proofs.Back as clock
@@ -92,16 +93,16 @@ one-when x true false e = cc
 one-when x false true e = cc
 one-when x false false e = cc
 
--- reports come from a kept setting alone
-one-kept : (j k : Bool) (m n : Option ℕ) → settingEffects j m ≡ settingEffects k n → j ≡ k
-one-kept true true m n e = refl
-one-kept true false m none e = cc
-one-kept true false m (some moment) e = cc
-one-kept false true none n e = cc
-one-kept false true (some moment) n e = cc
-one-kept false false m n e = refl
+-- reports come from an applied time alone
+one-applied : (j k : Bool) (m n : Option ℕ) → settingEffects j m ≡ settingEffects k n → j ≡ k
+one-applied true true m n e = refl
+one-applied true false m none e = cc
+one-applied true false m (some moment) e = cc
+one-applied false true none n e = cc
+one-applied false true (some moment) n e = cc
+one-applied false false m n e = refl
 
-one-stored : (kept : Bool) → Injective (settingEffects kept)
+one-stored : (applied : Bool) → Injective (settingEffects applied)
 one-stored true none none e = cc
 one-stored true none (some n) e = cc
 one-stored true (some m) none e = cc
@@ -111,7 +112,12 @@ one-stored false none (some n) e = cc
 one-stored false (some m) none e = cc
 one-stored false (some m) (some n) e = cc
 
--- storing a moment emits nothing
+-- reporting and storing emit nothing
+keep-reports : (kind : Kind) (applied : Bool) → keep (emits kind) (cond applied utcReports []) ≡ []
+unfolding keep
+keep-reports kind true = refl
+keep-reports kind false = refl
+
 keep-stored : (kind : Kind) (stored : Option ℕ) → keep (emits kind) (momentStored stored) ≡ []
 unfolding keep
 keep-stored kind none = refl
@@ -125,7 +131,7 @@ module _ (a b : Effects) (e : effectsOf a ≡ effectsOf b) where
   one-event : (kind : Kind) → pick kind (a .«missing_trusted_time_source») (a .«time_failure») ≡ pick kind (b .«missing_trusted_time_source») (b .«time_failure»)
   one-event kind = one-when (emit (eventOf kind)) _ _ (sym (emitted kind a) ∙ ap (keep (emits kind)) e ∙ emitted kind b)
 
-  one-setting : settingEffects (a .kept) (optionU64 (a .stored)) ≡ settingEffects (b .kept) (optionU64 (b .stored))
+  one-setting : settingEffects (a .applied) (optionU64 (a .stored)) ≡ settingEffects (b .applied) (optionU64 (b .stored))
   one-setting =
       let missing : a .«missing_trusted_time_source» ≡ b .«missing_trusted_time_source» = one-event missingSource in
       let failure : a .«time_failure» ≡ b .«time_failure» = one-event timeFailure in
@@ -134,10 +140,10 @@ module _ (a b : Effects) (e : effectsOf a ≡ effectsOf b) where
 one-effects : Injective effectsOf
 one-effects a b e =
     let set = one-setting a b e in
-    let kept = one-kept (a .kept) (b .kept) (optionU64 (a .stored)) (optionU64 (b .stored)) set in
-    let stored = one-stored (b .kept) (optionU64 (a .stored)) (optionU64 (b .stored)) (rw kept at set) in
+    let applied = one-applied (a .applied) (b .applied) (optionU64 (a .stored)) (optionU64 (b .stored)) set in
+    let stored = one-stored (b .applied) (optionU64 (a .stored)) (optionU64 (b .stored)) (rw applied at set) in
     λ i. record {
-      kept = kept i;
+      applied = applied i;
       stored = clock.one-result .moment (a .stored) (b .stored) stored i;
       «missing_trusted_time_source» = one-event a b e missingSource i;
       «time_failure» = one-event a b e timeFailure i;

@@ -1,13 +1,14 @@
 -- What the records of this crate stand for in the definitions. Each is injective, so a contract that equates meanings leaves one result.
-use mathlib.Core.Bool.{Bool}
-use mathlib.Core.List.{List, _++_}
+use mathlib.Core.Bool.{Bool, cond}
+use mathlib.Core.List.{List, [], _++_}
 use mathlib.Core.Option.{Option, none, some}
 use Prim.Native.Nat.{ℕ}
 use Rattle.model.specs.Basics.{when}
 use Rattle.model.specs.Maybe.{optionU64}
 use Rattle.model.specs.Answers.{Effect, emit, MissingTrustedTimeSource, TimeFailure}
+use Rattle.model.specs.Clock.{utcReports}
 use Rattle.model.specs.Retries as R
-use Rattle.rtc.specs.Meaning.{clockOf, keptReports, momentStored}
+use Rattle.rtc.specs.Meaning.{clockOf, momentStored}
 use Rattle.time_sync_client.specs.declared.TimeSyncClient.{TimeSyncClient}
 use Rattle.time_sync_client.specs.declared.Utc.{Utc}
 use Rattle.time_sync_client.specs.declared.Utc.the-variants as U
@@ -67,9 +68,9 @@ nextOf W.AttemptNow = R.attemptNow
 nextOf (W.For wait) = R.waitFor wait
 nextOf W.ForSource = R.waitForSource
 
--- what a setting of the clock asks for: reports where it was kept, and the moment to store
+-- what a time that was applied asks for: its reports, and the moment to store
 abbrev pub settingEffects : Bool → Option ℕ → List Effect
-settingEffects kept stored = keptReports kept ++ momentStored stored
+settingEffects applied stored = cond applied utcReports [] ++ momentStored stored
 
 -- MissingTrustedTimeSource comes before TimeFailure
 abbrev pub eventEffects : Bool → Bool → List Effect
@@ -77,7 +78,7 @@ eventEffects missing failure = when missing (emit MissingTrustedTimeSource) ++ w
 
 -- neither wakes the timer
 abbrev pub effectsOf : Effects → List Effect
-effectsOf e = settingEffects (e .kept) (optionU64 (e .stored)) ++ eventEffects (e .«missing_trusted_time_source») (e .«time_failure»)
+effectsOf e = settingEffects (e .applied) (optionU64 (e .stored)) ++ eventEffects (e .«missing_trusted_time_source») (e .«time_failure»)
 
 abbrev pub stepOf : Step → R.Step
 stepOf s = record { client = clientOf (s .client); clock = clockOf (s .rtc); effects = effectsOf (s .effects); next = nextOf (s .next) }

@@ -5,17 +5,18 @@ ghost use mathlib.Core.List.{[]};
 ghost use mathlib.Core.Path.{_≡_};
 ghost use Prim.Native.Nat.{_*_, min};
 ghost use Rattle.model.specs.Basics.{isSome};
+ghost use Rattle.model.specs.declared.TimeSource.the-variants.{NodeTimeCluster};
 ghost use Rattle.model.specs.Maybe.{optionU64};
+ghost use Rattle.model.specs.Clock.{setUtcTimePersist};
 ghost use Rattle.model.specs.Retries.{newClient, firstRetry, granularityTold, refreshTold, refresh, due, marked, sourceMissing, timeMissing, retryAfter, waitFor, nextAfter, clockAfter, clockEffects, attemptOf, attempt, nextIfSource, sourceChanged};
-ghost use Rattle.rtc.specs.Meaning.{optionSource, clockOf, utcTimePersistedOf};
-ghost use Rattle.time_sync_client.specs.Meaning.{clientOf, optionUtc, optionNumber, outcomeOf, refreshOf, nextOf, stepOf};
+ghost use Rattle.rtc.specs.Meaning.{optionSource, clockOf};
+ghost use Rattle.time_sync_client.specs.Meaning.{clientOf, optionUtc, optionNumber, outcomeOf, refreshOf, nextOf, settingEffects, stepOf};
 use model::GranularityRead;
 use model::MaybeU64;
 use model::TimeGranularity;
 use model::TimeSource;
 use rtc::MaybeSource;
 use rtc::Rtc;
-use rtc::UtcTimePersisted;
 
 // The period and the next retry are in microseconds.
 pub struct TimeSyncClient {
@@ -65,9 +66,9 @@ pub enum Wait {
     ForSource,
 }
 
-// What a step asks for, in this order: to report a kept setting, to store a moment, and to emit each event.
+// What a step asks for, in this order: to report the time that it applied, to store a moment, and to emit each event.
 pub struct Effects {
-    pub kept: bool,
+    pub applied: bool,
     pub stored: MaybeU64,
     pub missing_trusted_time_source: bool,
     pub time_failure: bool,
@@ -78,6 +79,13 @@ pub struct Step {
     pub rtc: Rtc,
     pub effects: Effects,
     pub next: Wait,
+}
+
+// The clock after an attempt, whether a time was applied to it, and the moment that is to be stored.
+struct Setting {
+    rtc: Rtc,
+    applied: bool,
+    stored: MaybeU64,
 }
 
 // Whether an event is emitted, and when an event of its kind last was.
@@ -137,7 +145,7 @@ impl TimeSyncClient {
             },
             rtc: rtc,
             effects: Effects {
-                kept: false,
+                applied: false,
                 stored: stored,
                 missing_trusted_time_source: false,
                 time_failure: false,
@@ -181,7 +189,7 @@ impl TimeSyncClient {
             },
             rtc: set_rtc,
             effects: Effects {
-                kept: set.kept,
+                applied: set.applied,
                 stored: stored,
                 missing_trusted_time_source: missing.emitted,
                 time_failure: failure.emitted,
@@ -287,16 +295,12 @@ impl Refresh {
     }
 
     // Sets the clock to a time, and leaves it alone without one.
-    fn apply(self, rtc: Rtc, tick: u64) -> UtcTimePersisted
-        ensures { λ r. ⌜ (utcTimePersistedOf r .state ≡ clockAfter (clockOf rtc) (refreshOf self) tick) × (utcTimePersistedOf r .effects ≡ clockEffects (clockOf rtc) (refreshOf self) tick) ⌝ }
+    fn apply(self, rtc: Rtc, tick: u64) -> Setting
+        ensures { λ r. ⌜ (clockOf (r .rtc) ≡ clockAfter (clockOf rtc) (refreshOf self) tick)
+            × (settingEffects (r .applied) (optionU64 (r .stored)) ≡ clockEffects (clockOf rtc) (refreshOf self) tick) ⌝ }
     {
         match self {
-            Refresh::Applied(utc_us, granularity) => rtc.set_utc_time_persist(
-                utc_us,
-                granularity,
-                TimeSource::NodeTimeCluster,
-                tick,
-            ),
+            Refresh::Applied(utc_us, granularity) => applied(rtc, utc_us, granularity, tick),
             Refresh::NoTime => unchanged(rtc),
             Refresh::NoSource => unchanged(rtc),
             Refresh::Failure => unchanged(rtc),
@@ -368,15 +372,34 @@ fn hourly(wanted: bool, at: MaybeU64, tick: u64) -> Mark
     }
 }
 
+// The clock set to a source's time, which is reported also where it is equal to the clock's own.
+fn applied(rtc: Rtc, utc_us: u64, granularity: TimeGranularity, tick: u64) -> Setting
+    ensures { λ r. ⌜ (clockOf (r .rtc) ≡ setUtcTimePersist (clockOf rtc) «utc_us» granularity NodeTimeCluster tick .state)
+        × (settingEffects (r .applied) (optionU64 (r .stored)) ≡ setUtcTimePersist (clockOf rtc) «utc_us» granularity NodeTimeCluster tick .effects) ⌝ }
+{
+    let set = rtc.set_utc_time_persist(
+        utc_us,
+        granularity,
+        TimeSource::NodeTimeCluster,
+        tick,
+    );
+    let after = set.rtc;
+    let stored = set.stored;
+    Setting {
+        rtc: after,
+        applied: true,
+        stored: stored,
+    }
+}
+
 // The clock as it is, with nothing to report or store.
-fn unchanged(rtc: Rtc) -> UtcTimePersisted
-    ensures { λ r. ⌜ (utcTimePersistedOf r .state ≡ clockOf rtc) × (utcTimePersistedOf r .effects ≡ []) ⌝ }
+fn unchanged(rtc: Rtc) -> Setting
+    ensures { λ r. ⌜ (clockOf (r .rtc) ≡ clockOf rtc) × (settingEffects (r .applied) (optionU64 (r .stored)) ≡ []) ⌝ }
 {
     let stored = MaybeU64::Nothing;
-    UtcTimePersisted {
+    Setting {
         rtc: rtc,
-        changed: false,
-        kept: false,
+        applied: false,
         stored: stored,
     }
 }

@@ -87,17 +87,12 @@ fn told_source(source: TrustedTimeSource) {
     numbered(b" ", source.endpoint as u64);
 }
 
-// Writes whether a setting changed something and whether it was kept.
-fn told_setting(changed: bool, kept: bool) {
+// Writes whether a setting changed something.
+fn told_setting(changed: bool) {
     if changed {
         text::words(b"changed");
     } else {
         text::words(b"same");
-    }
-    if kept {
-        text::words(b", kept");
-    } else {
-        text::words(b", not kept");
     }
 }
 
@@ -110,8 +105,7 @@ fn set(rtc: Rtc, s: &[u8], granularity: TimeGranularity, source: TimeSource) -> 
         source,
         u64_at(s, TICK),
     );
-    let answer = after.answer;
-    told_setting(answer.changed, answer.kept);
+    told_setting(after.changed);
     after.rtc
 }
 
@@ -120,7 +114,7 @@ fn persist(rtc: Rtc, s: &[u8], granularity: TimeGranularity, source: TimeSource)
     let moment = u64_at(s, ARGUMENT);
     let after = held::set_utc_time_persist(rtc, moment, granularity, source, u64_at(s, TICK));
     let answer = after.answer;
-    told_setting(answer.changed, answer.kept);
+    told_setting(answer.changed);
     let stored = answer.stored;
     match stored {
         MaybeU64::Nothing => text::words(b", not stored"),

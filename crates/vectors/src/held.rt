@@ -6,14 +6,8 @@ use rtc::Loaded;
 use rtc::MaybeSource;
 use rtc::Rtc;
 use rtc::SourcePersisted;
-use rtc_lent::UtcTimeAnswer;
+use rtc::UtcTimeSet;
 use rtc_lent::UtcTimePersistAnswer;
-
-// The clock after a setting, beside what it answers.
-pub(crate) struct AfterSetting {
-    pub rtc: Rtc,
-    pub answer: UtcTimeAnswer,
-}
 
 // The clock after a persisting setting, beside what it answers.
 pub(crate) struct AfterPersisting {
@@ -42,10 +36,10 @@ pub(crate) fn set_utc_time(
     granularity: TimeGranularity,
     source: TimeSource,
     tick: u64,
-) -> AfterSetting {
+) -> UtcTimeSet {
     let mut held = rtc;
-    let answer = rtc_lent::set_utc_time(&mut held, utc_us, granularity, source, tick);
-    AfterSetting { rtc: held, answer }
+    let changed = rtc_lent::set_utc_time(&mut held, utc_us, granularity, source, tick);
+    UtcTimeSet { rtc: held, changed }
 }
 
 // Lends the clock to a persisting setting.

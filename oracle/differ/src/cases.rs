@@ -52,7 +52,7 @@ pub fn sequence(seed: u64, number: u64, steps: u64) -> Result<u64, (Case, Diff)>
         start: rng.pick(&[0, 0, 1, 3, TOP]),
     };
     let mut world = case.world();
-    for _ in 0..steps {
+    while !world.again && (case.items.len() as u64) < steps {
         let item = input::item(&mut rng, &world);
         case.items.push(item.clone());
         caught(|| world.step(&item)).map_err(|diff| (case.clone(), diff))?;
@@ -67,6 +67,9 @@ pub fn run(case: &Case) -> Result<u64, Diff> {
         let mut world = case.world();
         for item in &case.items {
             world.step(item)?;
+            if world.again {
+                break;
+            }
         }
         world.finish(case.start)?;
         Ok(world.answers)

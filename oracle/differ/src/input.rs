@@ -215,8 +215,17 @@ pub fn step(rng: &mut Rng, world: &World) -> Step {
     }
 }
 
-pub fn item(rng: &mut Rng, world: &World) -> Item {
+/// A step; of those that set a clock again to what it holds, which end the sequence, most are drawn anew
+fn thinned(rng: &mut Rng, world: &World) -> Step {
     let step = step(rng, world);
+    if world.sets_again(&step) && !rng.one_in(3) {
+        return self::step(rng, world);
+    }
+    step
+}
+
+pub fn item(rng: &mut Rng, world: &World) -> Item {
+    let step = thinned(rng, world);
     let mut probes: Vec<u64> = (0..3).map(|_| moment(rng, world)).collect();
     // the boundaries that the step brings
     match &step {

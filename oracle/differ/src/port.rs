@@ -37,6 +37,8 @@ pub mod code {
     /// And the number of an attribute
     pub const REPORT: u8 = 0x10;
     pub const REPORT_LAST: u8 = 0x1f;
+    /// What a setting of the clock reports first: UTCTime, Granularity, TimeSource
+    pub const UTC_REPORTS: [u8; 3] = [REPORT, REPORT + 1, REPORT + 2];
     /// And the number of an event
     pub const EMIT: u8 = 0x20;
     pub const EMIT_LAST: u8 = 0x2f;
@@ -63,6 +65,10 @@ pub mod kind {
     pub const WAIT_FOR: u64 = 1;
     pub const WAIT_FOR_SOURCE: u64 = 2;
 }
+
+/// The time sources of SetUTCTime and of a reading that the client applies
+pub const ADMIN: u8 = 2;
+pub const NODE_TIME_CLUSTER: u8 = 3;
 
 /// A trusted time source: fabric, node, endpoint
 pub type Source = (u8, u64, u16);

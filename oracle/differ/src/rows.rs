@@ -9,14 +9,18 @@ use oracle::trace::{self, Effect};
 use timesync::entry;
 
 use crate::bytes;
-use crate::input::HOUR;
-use crate::port::{self, code, kind, place, Port, IMAGE, MOMENTS_MAX, RECORD_MAX};
+use crate::input::{HOUR, SECOND};
+use crate::port::{self, code, kind, place, Port, ADMIN, IMAGE, MOMENTS_MAX, NODE_TIME_CLUSTER, RECORD_MAX};
 use crate::replay::{replay, ROOMS};
 use crate::world::{Item, Kind, Step, World};
 
 /// The granularities of numbers 1 and 2
 const MINUTES: u8 = 1;
 const SECONDS: u8 = 2;
+/// The granularity that is lowered as Seconds are
+const NO_TIME: u8 = 0;
+/// When the same setting comes again: ten minutes after tick 0
+const AGAIN: u64 = 600 * SECOND;
 /// The moment that the other node tells
 const TOLD: u64 = 5_000_000_000_000_000;
 /// The source that is asked: node and endpoint, on fabric 1
@@ -68,6 +72,9 @@ pub fn check() -> Result<u64, String> {
     rows.client()?;
     rows.source_cleared()?;
     rows.source_replaced()?;
+    rows.set_again()?;
+    rows.applied_again()?;
+    rows.not_set_yet()?;
     rows.limits()?;
     rows.images()?;
     rows.histories()?;
@@ -197,6 +204,72 @@ impl Rows {
         self.is("a replaced source, not applied before the answer", world.port.utc_time(0), Ok((0, false)))?;
         self.alike(&mut world, Step::Client(told()))?;
         self.is("a replaced source, applied", world.port.utc_time(0), Ok((TOLD, true)))
+    }
+
+    /// Row 10: a setting that the clock holds, ten minutes later
+    fn set_again(&mut self) -> Done {
+        driver::set_build_moment(0);
+        driver::set_tick(0);
+        let device = Device::new(true);
+        let mut port = Port::new(Some((2, 2)), 0, 0);
+        device.cmd_set_utc_time(1000, SECONDS).map_err(|_| "row 10: the clock cannot be set")?;
+        port.set_utc_time(1000, SECONDS, None, 0);
+        driver::set_tick(AGAIN);
+        trace::take();
+        let r = device.cmd_set_utc_time(1000, SECONDS).map_err(driver::number);
+        self.is("row 10, the Rust wakes the timer and reports nothing", (r, trace::take()), (Ok(()), vec![Effect::WakeTimer]))?;
+        self.is("row 10, the Rust runs on", device.rtc_utc(), (AGAIN + 1000, true))?;
+        let r = port.clone().set_utc_time(1000, SECONDS, None, AGAIN);
+        let woken = [&code::UTC_REPORTS[..], &[code::WAKE_TIMER]].concat();
+        self.is("row 10, reported", (r.answer, r.effects), (0, woken))?;
+        for granularity in [NO_TIME, MINUTES, SECONDS] {
+            for persist in [false, true] {
+                let mut port = port.clone();
+                let (r, changed) = port.rtc_set(persist, 1000, granularity, ADMIN, AGAIN);
+                self.is("row 10, not changed, and reported", (r.answer, r.effects, changed), (0, code::UTC_REPORTS.to_vec(), Some(0)))?;
+                self.is("row 10, anchored", (port.utc_time(AGAIN), port.word(place::ANCHOR, 8)), (Ok((1000, true)), AGAIN))?;
+            }
+        }
+        self.left("row 10, a refused one", &mut port, 1, |p| p.set_utc_time(1000, 5, None, AGAIN))?;
+        self.is("row 10, a refused one moves no anchor", port.utc_time(AGAIN), Ok((AGAIN + 1000, true)))
+    }
+
+    /// Row 10: a time that the client applies again, ten minutes later
+    fn applied_again(&mut self) -> Done {
+        driver::set_build_moment(0);
+        driver::set_tick(0);
+        let mut device = Device::new(false);
+        device.cmd_set_source(1, Some(ASKED)).map_err(|_| "row 10: no source")?;
+        driver::script(told());
+        device.client_start(AGAIN);
+        driver::set_tick(AGAIN);
+        trace::take();
+        driver::script(told());
+        device.client_step();
+        driver::clear_script();
+        let reported = trace::take().iter().any(|effect| matches!(effect, Effect::Report(..)));
+        self.is("row 10, the Rust applies it and reports nothing", (reported, device.rtc_utc()), (false, (TOLD + AGAIN, true)))?;
+
+        let mut port = Port::new(None, 0, AGAIN);
+        port.set_source(1, Some(ASKED));
+        port.attempt(true, Some(TOLD), Some(SECONDS), 0);
+        let before = port.word(place::PERSISTED, 8);
+        let (r, wait) = port.attempt(true, Some(TOLD), Some(SECONDS), AGAIN);
+        let answer = (0, code::UTC_REPORTS.to_vec(), (kind::WAIT_FOR, AGAIN));
+        self.is("row 10, applied, reported and nothing stored", (r.answer, r.effects, wait), answer)?;
+        self.is("row 10, the persisted moment stays", (before, port.word(place::PERSISTED, 8)), (TOLD, TOLD))?;
+        self.is("row 10, anchored", (port.utc_time(AGAIN), port.source()), (Ok((TOLD, true)), Ok(NODE_TIME_CLUSTER.into())))
+    }
+
+    /// No row: a clock that is not set takes the moment and the time source that it holds as the Rust does
+    fn not_set_yet(&mut self) -> Done {
+        for persist in [false, true] {
+            let mut world = World::new(Kind::Bare, 7, HOUR, 0);
+            for step in [Step::Set(persist, 7, NO_TIME, 0), Step::Tick(AGAIN), Step::LoadClock(7, Some(9), None), Step::Set(persist, 9, MINUTES, 0)] {
+                self.alike(&mut world, step)?;
+            }
+        }
+        Ok(())
     }
 
     /// A step that both sides answer alike

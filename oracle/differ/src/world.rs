@@ -7,7 +7,7 @@ use oracle::tlv::Value;
 use oracle::trace::{self, Effect};
 
 use crate::bytes;
-use crate::port::{code, place, LookTold, Port, Returned, Source, RECORD_MAX};
+use crate::port::{code, place, LookTold, Port, Returned, Source, ADMIN, RECORD_MAX};
 use crate::tally;
 
 /// What the image is compared with
@@ -99,6 +99,8 @@ pub struct World {
     period: u64,
     /// The list calls so far as one history; none once the generation was put
     history: Option<Vec<u8>>,
+    /// A clock that was set got the setting that it holds: the port's anchor has moved, the Rust's has not, and the sequence ends
+    pub again: bool,
     pub answers: u64,
 }
 
@@ -148,6 +150,7 @@ impl World {
             exchange: None,
             period,
             history: Some(Vec::new()),
+            again: false,
             answers: 0,
         }
     }
@@ -197,6 +200,23 @@ impl World {
 
     fn effects(port: &Port, r: &Returned, record: Option<&[u8]>, told: Option<&LookTold>) -> Result<Vec<Effect>, Diff> {
         r.effects.iter().map(|code| Self::effect(port, *code, record, told)).collect()
+    }
+
+    /// Whether a clock is set and holds just this setting; its granularity is one step lower, and never lower than Minutes
+    fn holds(port: &Port, utc: u64, granularity: u8, source: u8) -> bool {
+        let lowered = granularity.saturating_sub(1).max(1);
+        let codes = [place::SET, place::GRANULARITY, place::SOURCE].map(|at| port.word(at, 1));
+        port.word(place::UTC, 8) == utc && codes == [1, lowered, source].map(u64::from)
+    }
+
+    /// What is compared of a setting: where the clock holds it, the port reports it all the same and the Rust does not
+    fn set(&mut self, what: &'static str, r: &Returned, again: bool, answer: u64, mut effects: Vec<Effect>) -> Done {
+        if again {
+            tally::met("the same setting again", r);
+            effects.splice(0..0, code::UTC_REPORTS.map(|asked| Effect::Report(0, CLUSTER, u32::from(asked - code::REPORT))));
+        }
+        self.again = again;
+        self.called(what, r, None, answer, effects)
     }
 
     /// The answer and the effects of a call, side by side
@@ -302,6 +322,7 @@ impl World {
 
     fn set_utc(&mut self, utc: u64, g: u8, source: Option<u8>) -> Done {
         let before = self.port.image().to_vec();
+        let again = Self::holds(&self.port, utc, g, ADMIN);
         let p = self.port.set_utc_time(utc, g, source, self.tick);
         if source.is_some_and(|s| s > 16) {
             // a number of no time source: the Rust never reads the field
@@ -313,7 +334,7 @@ impl World {
             // a provider's timer is its own, the port's list store has one
             effects.push(Effect::WakeTimer);
         }
-        self.called("SetUTCTime", &p, None, number(&r), effects)?;
+        self.set("SetUTCTime", &p, again, number(&r), effects)?;
         if p.answer != 0 {
             self.unchanged("SetUTCTime", &before)?;
         }
@@ -322,6 +343,7 @@ impl World {
 
     fn rtc_set(&mut self, persist: bool, utc: u64, g: u8, s: u8) -> Done {
         let before = self.port.image().to_vec();
+        let again = Self::holds(&self.port, utc, g, s);
         let (p, changed) = self.port.rtc_set(persist, utc, g, s, self.tick);
         let (Some(granularity), Some(source)) = (driver::granularity(g), driver::source(s)) else {
             return self.turned_down("a setting of the clock", &p, 1, &before);
@@ -335,7 +357,7 @@ impl World {
         } else {
             (0, self.device.rtc_set(utc, granularity, source))
         };
-        self.called("a setting of the clock", &p, None, answer, trace::take())?;
+        self.set("a setting of the clock", &p, again, answer, trace::take())?;
         same!(self, "changed", changed, Some(u64::from(told)));
         Ok(())
     }
@@ -435,6 +457,16 @@ impl World {
             }
         }
         out
+    }
+
+    /// Whether a step gives a set clock the setting that it holds
+    pub fn sets_again(&self, step: &Step) -> bool {
+        match step {
+            Step::Utc(utc, g, _) => Self::holds(&self.port, *utc, *g, ADMIN),
+            Step::Set(_, utc, g, s) => Self::holds(&self.port, *utc, *g, *s),
+            Step::Client(outcome) => Self::told(Self::reading(Some(outcome))).is_some_and(|(utc, g)| Self::holds_told(&self.port, utc, g)),
+            _ => false,
+        }
     }
 
     pub fn exchange_open(&self) -> bool {

@@ -28,9 +28,6 @@ fn lowered(g: u8) -> u8 {
 
 /// Sets the clock, and answers the codes of the effects.
 pub fn set_clock(c: &mut Clock, utc: u64, g: u8, s: u8, tick: u64) -> Vec<u8> {
-    if !changes(c, utc, g, s) && c.anchor.is_some() {
-        return vec![];
-    }
     c.utc = utc;
     c.granularity = lowered(g);
     c.source = s;

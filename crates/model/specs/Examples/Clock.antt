@@ -1,6 +1,6 @@
 -- The clock at the edges: ticks around an anchor, equal settings, the day rule, loads.
-use mathlib.Core.Bool.{true, false}
-use mathlib.Core.List.{[], _∷_}
+use mathlib.Core.Bool.{Bool, true, false}
+use mathlib.Core.List.{[], _∷_, _++_}
 use mathlib.Core.Option.{none, some}
 use mathlib.Core.Path.{_≡_, refl}
 use Prim.Native.Nat.{ℕ}
@@ -8,8 +8,8 @@ use Rattle.model.specs.declared.TimeGranularity.the-variants.{NoTime, Mi
 use Rattle.model.specs.declared.TimeSource.the-variants as S
 use Rattle.model.specs.declared.Refusal.the-variants.{BadRecord}
 use Rattle.model.specs.Basics.{top}
-use Rattle.model.specs.Answers.{refused, answers, done, TrustedSource, report, emit, storeMoment, removeMoment, storeSource, removeSource, TrustedTimeSource, MissingTrustedTimeSource}
-use Rattle.model.specs.Clock.{Clock, fresh, resetPersist, load, reliable, lastKnown, reading, granularityRead, sourceRead, lowered, changes, isKept, setTo, utcReports, setUtcTime, aDayApart, withPersisted, setUtcTimePersist, withTrusted, setTrustedTimeSource, setTrustedTimeSourcePersist}
+use Rattle.model.specs.Answers.{refused, answers, done, TrustedSource, report, emit, storeMoment, removeMoment, storeSource, removeSource, TrustedTimeSource, MissingTrustedTimeSource, Result}
+use Rattle.model.specs.Clock.{Clock, fresh, resetPersist, load, reliable, lastKnown, reading, granularityRead, sourceRead, lowered, changes, setTo, utcReports, setUtcTime, aDayApart, withPersisted, setUtcTimePersist, withTrusted, setTrustedTimeSource, setTrustedTimeSourcePersist}
 use Rattle.model.specs.Examples.Cases.{Gives, _gives_}
 
 -- a fresh clock stands still at the build moment
@@ -23,12 +23,12 @@ clock = setUtcTime (fresh 1000) 5000 Microseconds S.Admin 70 .state
 
 -- ticks before the anchor, at it, after it, and so far that the sum is held
 ticks : Gives (reading clock) (0 gives reliable 5000 ∷ 69 gives reliable 5000 ∷ 70 gives reliable 5000 ∷ 75 gives reliable 5005 ∷ top gives reliable top ∷ [])
-unfolding setUtcTime isKept changes reading
+unfolding setUtcTime changes reading
 ticks = refl
 
 -- set to the top: held from the first tick on
 at-top : reading (setUtcTime (fresh 1000) top Microseconds S.Admin 0 .state) 9 ≡ reliable top
-unfolding setUtcTime isKept changes reading
+unfolding setUtcTime changes reading
 at-top = refl
 
 lower : Gives lowered
@@ -40,34 +40,67 @@ abbrev unset : Clock
 unset = record { utc = 9; persisted = 9; granularity = Minutes; source = S.Admin; anchor = none; trusted = none }
 
 granularities : Gives granularityRead (unset gives NoTime ∷ clock gives Milliseconds ∷ [])
-unfolding granularityRead setUtcTime isKept changes
+unfolding granularityRead setUtcTime changes
 granularities = refl
 
 sources : Gives sourceRead (unset gives S.None ∷ clock gives S.Admin ∷ [])
-unfolding sourceRead setUtcTime isKept changes
+unfolding sourceRead setUtcTime changes
 sources = refl
 
--- the same setting again on a set clock: nothing changed, nothing reported, the anchor stays
-set-again : setUtcTime clock 5000 Microseconds S.Admin 90 ≡ record { state = clock; answer = answers false; effects = [] }
-unfolding setUtcTime isKept changes
+-- the same setting again on a set clock: nothing changed, and it is reported and anchored at its tick, also at one before the anchor
+abbrev again : ℕ → Result Clock Bool
+again tick = setUtcTime clock 5000 Microseconds S.Admin tick
+
+set-again : Gives again
+    (90 gives record { state = setTo clock 5000 Microseconds S.Admin 90; answer = answers false; effects = utcReports }
+    ∷ 0 gives record { state = setTo clock 5000 Microseconds S.Admin 0; answer = answers false; effects = utcReports }
+    ∷ [])
+unfolding setUtcTime changes
 set-again = refl
+
+reads-again : Gives (reading (again 90 .state)) (70 gives reliable 5000 ∷ 90 gives reliable 5000 ∷ 91 gives reliable 5001 ∷ [])
+unfolding setUtcTime reading
+reads-again = refl
+
+-- what the clock reads by now does not count: 1000 at tick 0, ten minutes later 1000 once more, or what it reads then
+abbrev thousand : Clock
+thousand = setUtcTime (fresh 0) 1000 Seconds S.Admin 0 .state
+
+ten-minutes : Gives (λ utc. setUtcTime thousand utc Seconds S.Admin 600000000 .answer) (1000 gives answers false ∷ 600001000 gives answers true ∷ [])
+unfolding setUtcTime changes
+ten-minutes = refl
+
+reads-thousand : Gives (λ utc. reading (setUtcTime thousand utc Seconds S.Admin 600000000 .state) 600000000)
+    (1000 gives reliable 1000 ∷ 600001000 gives reliable 600001000 ∷ [])
+unfolding setUtcTime reading
+reads-thousand = refl
+
+-- NoTime, Minutes and Seconds are lowered to the same granularity, so they are one setting
+one-setting : Gives (λ g. setUtcTime thousand 1000 g S.Admin 9)
+    (NoTime gives record { state = setTo thousand 1000 Seconds S.Admin 9; answer = answers false; effects = utcReports }
+    ∷ Minutes gives record { state = setTo thousand 1000 Seconds S.Admin 9; answer = answers false; effects = utcReports }
+    ∷ Seconds gives record { state = setTo thousand 1000 Seconds S.Admin 9; answer = answers false; effects = utcReports }
+    ∷ Milliseconds gives record { state = setTo thousand 1000 Milliseconds S.Admin 9; answer = answers true; effects = utcReports }
+    ∷ [])
+unfolding setUtcTime changes
+one-setting = refl
 
 -- one new value is enough: the moment alone, the granularity alone, the source alone
 other-moment : setUtcTime clock 5001 Microseconds S.Admin 90 ≡ record { state = setTo clock 5001 Microseconds S.Admin 90; answer = answers true; effects = utcReports }
-unfolding setUtcTime isKept changes
+unfolding setUtcTime changes
 other-moment = refl
 
 other-granularity : setUtcTime clock 5000 Milliseconds S.Admin 90 ≡ record { state = setTo clock 5000 Milliseconds S.Admin 90; answer = answers true; effects = utcReports }
-unfolding setUtcTime isKept changes
+unfolding setUtcTime changes
 other-granularity = refl
 
 other-source : setUtcTime clock 5000 Microseconds S.GNSS 90 ≡ record { state = setTo clock 5000 Microseconds S.GNSS 90; answer = answers true; effects = utcReports }
-unfolding setUtcTime isKept changes
+unfolding setUtcTime changes
 other-source = refl
 
--- an equal setting on a clock that was not set is kept and reported, and still nothing changed
+-- an equal setting on a clock that was not set: still nothing changed
 set-unset : setUtcTime unset 9 Minutes S.Admin 4 ≡ record { state = setTo unset 9 Minutes S.Admin 4; answer = answers false; effects = utcReports }
-unfolding setUtcTime isKept changes
+unfolding setUtcTime changes
 set-unset = refl
 
 -- the day rule counts from the persisted moment, both ways
@@ -81,16 +114,25 @@ abbrev apart : Clock
 apart = setUtcTime (fresh 0) 86400000000 Seconds S.Admin 1 .state
 
 stored-unchanged : setUtcTimePersist apart 86400000000 Seconds S.Admin 9
-    ≡ record { state = withPersisted apart 86400000000; answer = answers (record { changed = false; kept = false; stored = true }); effects = storeMoment 86400000000 ∷ [] }
-unfolding setUtcTimePersist setUtcTime isKept changes aDayApart
+    ≡ record {
+      state = withPersisted (setTo apart 86400000000 Seconds S.Admin 9) 86400000000;
+      answer = answers (record { changed = false; stored = true });
+      effects = utcReports ++ (storeMoment 86400000000 ∷ []);
+    }
+unfolding setUtcTimePersist setUtcTime changes aDayApart
 stored-unchanged = refl
 
-stored-once : setUtcTimePersist (withPersisted apart 86400000000) 86400000000 Seconds S.Admin 9 .effects ≡ []
-unfolding setUtcTimePersist setUtcTime isKept changes aDayApart
+stored-once : setUtcTimePersist (withPersisted apart 86400000000) 86400000000 Seconds S.Admin 9
+    ≡ record {
+      state = setTo (withPersisted apart 86400000000) 86400000000 Seconds S.Admin 9;
+      answer = answers (record { changed = false; stored = false });
+      effects = utcReports;
+    }
+unfolding setUtcTimePersist setUtcTime changes aDayApart
 stored-once = refl
 
 under-a-day : setUtcTimePersist (fresh 0) 86399999999 Seconds S.Admin 1 .effects ≡ utcReports
-unfolding setUtcTimePersist setUtcTime isKept changes aDayApart
+unfolding setUtcTimePersist setUtcTime changes aDayApart
 under-a-day = refl
 
 -- ## Trusted sources
@@ -108,28 +150,28 @@ trustingSet = withTrusted clock (some (source 1 5 0))
 -- a setting on a clock that has a source: the source stays, and so does the persisted moment
 set-trusting : setUtcTime trusting 5000 Seconds S.GNSS 70 .state
     ≡ record { utc = 5000; persisted = 0; granularity = Minutes; source = S.GNSS; anchor = some 70; trusted = some (source 1 5 0) }
-unfolding setUtcTime isKept changes
+unfolding setUtcTime changes
 set-trusting = refl
 
 -- the same where the moment is stored
 persist-trusting : setUtcTimePersist trusting 86400000000 Seconds S.GNSS 70 .state
     ≡ record { utc = 86400000000; persisted = 86400000000; granularity = Minutes; source = S.GNSS; anchor = some 70; trusted = some (source 1 5 0) }
-unfolding setUtcTimePersist setUtcTime isKept changes aDayApart
+unfolding setUtcTimePersist setUtcTime changes aDayApart
 persist-trusting = refl
 
 -- a first source, another one and none on a set clock: the rest of the clock stays
 source-on-set : setTrustedTimeSource clock (some (source 1 5 0)) .state
     ≡ record { utc = 5000; persisted = 1000; granularity = Milliseconds; source = S.Admin; anchor = some 70; trusted = some (source 1 5 0) }
-unfolding setTrustedTimeSource setUtcTime isKept changes
+unfolding setTrustedTimeSource setUtcTime changes
 source-on-set = refl
 
 source-replaced : setTrustedTimeSource trustingSet (some (source 1 6 0)) .state
     ≡ record { utc = 5000; persisted = 1000; granularity = Milliseconds; source = S.Admin; anchor = some 70; trusted = some (source 1 6 0) }
-unfolding setTrustedTimeSource setUtcTime isKept changes
+unfolding setTrustedTimeSource setUtcTime changes
 source-replaced = refl
 
 source-cleared : setTrustedTimeSource trustingSet none .state ≡ clock
-unfolding setTrustedTimeSource setUtcTime isKept changes
+unfolding setTrustedTimeSource setUtcTime changes
 source-cleared = refl
 
 -- an equal one; one that differs in the fabric, in the node or in the endpoint alone; none

@@ -125,15 +125,15 @@ abbrev running : Device
 running = setUTCTime uneven 900 4 none 1 .state
 
 utc-read : Gives (λ d. readUTCTime d 51) (bare gives none ∷ running gives some 950 ∷ [])
-unfolding setUTCTime granularityOf C.setUtcTime C.isKept C.changes C.reading
+unfolding setUTCTime granularityOf C.setUtcTime C.changes C.reading
 utc-read = refl
 
 granularity-read : Gives readGranularity (bare gives NoTime ∷ running gives Milliseconds ∷ [])
-unfolding setUTCTime granularityOf C.setUtcTime C.isKept C.changes C.granularityRead
+unfolding setUTCTime granularityOf C.setUtcTime C.changes C.granularityRead
 granularity-read = refl
 
 source-read : Gives readTimeSource (bare gives None ∷ running gives Admin ∷ [])
-unfolding setUTCTime granularityOf C.setUtcTime C.isKept C.changes C.sourceRead
+unfolding setUTCTime granularityOf C.setUtcTime C.changes C.sourceRead
 source-read = refl
 
 -- LocalTime: null on a clock that is not set, list store or none; before a window, inside it, and run out
@@ -142,7 +142,7 @@ unfolding localTime C.reading
 local-unset = refl
 
 local-read : Gives (readLocalTime running) (51 gives answers (some 180000950) ∷ 101 gives answers (some 3780001000) ∷ 1101 gives answers none ∷ [])
-unfolding setUTCTime granularityOf C.setUtcTime C.isKept C.changes C.reading localTime shown combinedOffset L.activeZone L.lastActiveWindow L.usable keep last any
+unfolding setUTCTime granularityOf C.setUtcTime C.changes C.reading localTime shown combinedOffset L.activeZone L.lastActiveWindow L.usable keep last any
 local-read = refl
 
 -- ## SetUTCTime
@@ -162,17 +162,21 @@ unreadable = refl
 
 -- whatever source was sent, the clock's is Admin
 source-is-admin : setUTCTime bare 7 2 (some 16) 1 .state .clock .source ≡ Admin
-unfolding setUTCTime granularityOf sourceOf C.setUtcTime C.isKept C.changes
+unfolding setUTCTime granularityOf sourceOf C.setUtcTime C.changes
 source-is-admin = refl
 
--- the timer is woken only where there is a list store, and there even if nothing changes
+-- the timer is woken only where there is a list store; an equal setting reports and wakes as well, and is anchored at its tick
 wakes : Gives (λ d. setUTCTime d 7 2 none 1 .effects) (bare gives utcReports ∷ listing gives (utcReports ++ (wakeTimer ∷ [])) ∷ [])
-unfolding setUTCTime granularityOf C.setUtcTime C.isKept C.changes
+unfolding setUTCTime granularityOf C.setUtcTime C.changes
 wakes = refl
 
-wakes-again : setUTCTime (setUTCTime listing 7 2 none 1 .state) 7 2 none 9 .effects ≡ wakeTimer ∷ []
-unfolding setUTCTime granularityOf C.setUtcTime C.isKept C.changes
+wakes-again : setUTCTime (setUTCTime listing 7 2 none 1 .state) 7 2 none 9 .effects ≡ utcReports ++ (wakeTimer ∷ [])
+unfolding setUTCTime granularityOf C.setUtcTime C.changes
 wakes-again = refl
+
+anchored-again : Gives (λ g. setUTCTime (setUTCTime listing 7 2 none 1 .state) 7 g none 9 .state .clock .anchor) (2 gives some 9 ∷ 0 gives some 9 ∷ 5 gives some 1 ∷ [])
+unfolding setUTCTime granularityOf C.setUtcTime
+anchored-again = refl
 
 -- ## SetTrustedTimeSource
 

@@ -9,7 +9,7 @@ use Rattle.model.specs.declared.TimeSource.the-variants.{NodeTimeCluster
 use Rattle.model.specs.Numbers.{granularityOf}
 use Rattle.model.specs.Basics.{top}
 use Rattle.model.specs.Answers.{emit, MissingTrustedTimeSource, TimeFailure, storeMoment}
-use Rattle.model.specs.Clock.{fresh, utcReports, setUtcTime, isKept, changes, aDayApart, setUtcTimePersist}
+use Rattle.model.specs.Clock.{Clock, fresh, setTo, utcReports, setUtcTime, changes, aDayApart, setUtcTimePersist}
 use Rattle.model.specs.Retries.{Client, newClient, firstRetry, doubled, Outcome, told, failed, refresh, Applied, NoTime, NoSource, Failure, eventsOf, attemptOf, attempt, attemptNow, waitFor, waitForSource, sourceChanged}
 use Rattle.model.specs.Table.{sourced}
 use Rattle.model.specs.Examples.Cases.{Gives, _gives_}
@@ -42,17 +42,31 @@ no-source = refl
 
 -- Microseconds end as Seconds: the client lowers them once and the clock again
 lowered-twice : attempt (newClient 300000000) sourced (reading (some 5) (some 4)) 0 .clock .granularity ≡ Seconds
-unfolding attemptOf refresh granularityOf setUtcTimePersist setUtcTime isKept changes aDayApart
+unfolding attemptOf refresh granularityOf setUtcTimePersist setUtcTime changes aDayApart
 lowered-twice = refl
 
 -- applying stores by the day rule, with the node's source, and wakes nobody
 applied : attempt (newClient 300000000) sourced (reading (some 86400000000) none) 0 .effects ≡ utcReports ++ (storeMoment 86400000000 ∷ [])
-unfolding attemptOf refresh eventsOf setUtcTimePersist setUtcTime isKept changes aDayApart
+unfolding attemptOf refresh eventsOf setUtcTimePersist setUtcTime changes aDayApart
 applied = refl
 
 applied-source : attempt (newClient 300000000) sourced (reading (some 5) none) 0 .clock .source ≡ NodeTimeCluster
-unfolding attemptOf refresh setUtcTimePersist setUtcTime isKept changes aDayApart
+unfolding attemptOf refresh setUtcTimePersist setUtcTime changes aDayApart
 applied-source = refl
+
+-- a reading equal to the one before, five minutes later: reported and anchored at its tick, and within a day nothing is stored
+abbrev appliedOnce : Clock
+appliedOnce = attempt (newClient 300000000) sourced (reading (some 86400000000) none) 0 .clock
+
+applied-again : attempt (newClient 300000000) appliedOnce (reading (some 86400000000) none) 300000000
+    ≡ record {
+      client = newClient 300000000;
+      clock = setTo appliedOnce 86400000000 Seconds NodeTimeCluster 300000000;
+      effects = utcReports;
+      next = waitFor 300000000;
+    }
+unfolding attemptOf refresh eventsOf setUtcTimePersist setUtcTime aDayApart
+applied-again = refl
 
 -- ## Waits
 

@@ -92,7 +92,7 @@ module _ {M : Type 1} (𝓤 : URA M) (H : Heap 𝓤) (A : Atoms 𝓤) (W : Given
 
   -- what the function by value says of its result
   abbrev Said : AfterPersisting → Type 0
-  Said r = Meaning.utcTimePersistedOf (record { rtc = r .rtc; changed = r .answer .changed; kept = r .answer .kept; stored = r .answer .stored }) ≡ Clock.setUtcTimePersist (Meaning.clockOf was) utc-us granularity source tick
+  Said r = Meaning.utcTimePersistedOf (record { rtc = r .rtc; changed = r .answer .changed; stored = r .answer .stored }) ≡ Clock.setUtcTimePersist (Meaning.clockOf was) utc-us granularity source tick
 
   -- what the call takes: the copy, and what the other parameters own
   abbrev to : Value 𝓤 H A at-mem run .Ghost

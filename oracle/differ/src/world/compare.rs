@@ -40,7 +40,11 @@ impl World {
         self.spoils(&port)
     }
 
+    /// After a setting that the clock held, the Rust reads at its own anchor what the port reads now, and all else is equal
     fn compare_clock(&mut self) -> Done {
+        let own_anchor = self.device.rtc_fields().4;
+        let (at, anchor) = if self.again { (own_anchor.unwrap_or(0), Some(self.tick)) } else { (self.tick, own_anchor) };
+        driver::set_tick(at);
         let (utc, reliable) = self.device.rtc_utc();
         same!(self, "utc_time", self.port.utc_time(self.tick), Ok((utc, reliable)));
         same!(self, "UTCTime", reliable.then_some(utc), self.device.attr_utc_time());
@@ -49,7 +53,7 @@ impl World {
         same!(self, "source", self.port.source(), Ok(self.device.rtc_source().into()));
         same!(self, "TimeSource", self.port.source(), Ok(self.device.attr_source().into()));
         same!(self, "TrustedTimeSource", self.port.trusted().map(source_value), Ok(self.device.attr_trusted()));
-        let (utc, persisted, g, s, anchor) = self.device.rtc_fields();
+        let (utc, persisted, g, s, _) = self.device.rtc_fields();
         let long = [place::UTC, place::PERSISTED, place::ANCHOR].map(|at| self.port.word(at, 8));
         same!(self, "clock, moments and anchor", long, [utc, persisted, anchor.unwrap_or(0)]);
         let codes = [place::GRANULARITY, place::SOURCE, place::SET].map(|at| self.port.word(at, 1) as u8);
@@ -57,6 +61,7 @@ impl World {
         let local = self.device.local_time();
         let want = local.map_err(|e| u64::from(driver::number(e)));
         same!(self, "LocalTime", self.port.local_time(self.tick), want);
+        driver::set_tick(self.tick);
         Ok(())
     }
 

@@ -5,7 +5,7 @@ use oracle::trace::{self, Effect};
 
 use super::{Diff, Done, Kind, World};
 use crate::input::HOUR;
-use crate::port::{code, kind, place, LookTold, Port, Returned, Source};
+use crate::port::{code, kind, place, LookTold, Port, Returned, Source, NODE_TIME_CLUSTER};
 use crate::tally;
 
 /// What the caller makes of an outcome: whether it was answered, a moment, a granularity
@@ -23,6 +23,8 @@ struct Round {
     exchange: Option<Source>,
     /// An event was asked for whose mark lies after the tick: the Rust has no answer there
     backwards: bool,
+    /// A time was applied that the clock held
+    again: bool,
 }
 
 impl World {
@@ -91,7 +93,7 @@ impl World {
 
     // ---- The client
 
-    fn reading(outcome: Option<&Outcome>) -> Reading {
+    pub(super) fn reading(outcome: Option<&Outcome>) -> Reading {
         let Some(Outcome::Answer(parts, fault)) = outcome else {
             return (false, None, None);
         };
@@ -115,9 +117,23 @@ impl World {
         (true, utc, granularity)
     }
 
+    /// The time of a reading, if it has one: its moment and the granularity that the clock is set with
+    pub(super) fn told((answered, utc, granularity): Reading) -> Option<(u64, u8)> {
+        let granularity = match granularity {
+            // missing, or a number that names none: Seconds; and a round trip is within milliseconds at best
+            None | Some(5..) => 2,
+            Some(g) => g.min(3),
+        };
+        utc.filter(|_| answered && granularity != 0).map(|utc| (utc, granularity))
+    }
+
+    pub(super) fn holds_told(port: &Port, utc: u64, granularity: u8) -> bool {
+        Self::holds(port, utc, granularity, NODE_TIME_CLUSTER)
+    }
+
     /// The client's loop until it waits, on an image; without an outcome an exchange stays open
     fn client_round(&mut self, port: &mut Port, woken: &mut bool, outcome: Option<&Outcome>) -> Result<Round, Diff> {
-        let mut round = Round { effects: Vec::new(), due: self.client.flatten(), exchange: self.exchange, backwards: false };
+        let mut round = Round { effects: Vec::new(), due: self.client.flatten(), exchange: self.exchange, backwards: false, again: false };
         let (mut must, mut fresh) = (self.client.is_none() || self.exchange.is_some(), false);
         loop {
             if must {
@@ -187,13 +203,21 @@ impl World {
             tally::met("attempt, source replaced while open", &p);
         }
         same!(self, "attempt, answer", p.answer, 0);
-        let applied = asked.is_some() && answered && utc.is_some() && granularity != Some(0);
-        for (mark, wanted) in MARKS.into_iter().zip([asked.is_none() || !answered, !applied]) {
+        let applied = Self::told(reading).filter(|_| asked.is_some());
+        for (mark, wanted) in MARKS.into_iter().zip([asked.is_none() || !answered, applied.is_none()]) {
             if wanted {
                 round.backwards |= self.before_mark(port, &before, mark, &p)?;
             }
         }
-        round.effects.extend(Self::effects(port, &p, None, None)?);
+        let mut effects = Self::effects(port, &p, None, None)?;
+        if applied.is_some_and(|(utc, g)| Self::holds_told(&before, utc, g)) {
+            // the port reports it all the same, the Rust does not
+            tally::met("attempt, the same time again", &p);
+            same!(self, "attempt again, reports first", p.effects.get(..3), Some(&code::UTC_REPORTS[..]));
+            effects.drain(..3);
+            round.again = true;
+        }
+        round.effects.extend(effects);
         self.park(round, wait)
     }
 
@@ -263,6 +287,7 @@ impl World {
         driver::clear_script();
         let effects = trace::take();
         self.port = port;
+        self.again = round.again;
         self.client_woken = woken;
         self.client = Some(round.due);
         self.exchange = round.exchange;

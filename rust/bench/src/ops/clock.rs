@@ -22,18 +22,18 @@ pub fn commands<const Z: usize, const W: usize>(both: &Both<Z, W>) -> Vec<Op> {
 
 fn utc_time<const Z: usize, const W: usize>(both: &Both<Z, W>) -> Vec<Op> {
     let (at, tick) = (both.at, both.tick);
-    let (kept, equal) = (both.new_handler(), both.new_handler());
+    let (changed, equal) = (both.new_handler(), both.new_handler());
     let (mut port_utc, mut rust_utc) = (SET, SET);
     vec![
         Op::command(
-            "set_utc_time, kept",
+            "set_utc_time, changed",
             both.change(move |i, _| {
                 port_utc ^= 1;
                 entry::set_utc_time(i, port_utc, black_box(4), 0, 0, black_box(tick))
             }),
             logged(move || {
                 rust_utc ^= 1;
-                rust_set_utc_time(black_box(kept), at, rust_utc, black_box(4))
+                rust_set_utc_time(black_box(changed), at, rust_utc, black_box(4))
             }),
         ),
         Op::command(
@@ -72,7 +72,7 @@ fn setting<const Z: usize, const W: usize>(both: &Both<Z, W>) -> Op {
     let (at, tick) = (both.at, both.tick);
     let (mut port_utc, mut rust_utc, mut rtc) = (SET, SET, clock(at));
     Op::command(
-        "rtc_set_utc_time, kept",
+        "rtc_set_utc_time, changed",
         both.change(move |i, o| {
             port_utc ^= 1;
             entry::rtc_set_utc_time(i, port_utc, black_box(4), 2, black_box(tick), &mut o.a) + o.a
@@ -90,7 +90,7 @@ fn persisting<const Z: usize, const W: usize>(both: &Both<Z, W>) -> Op {
     let (mut port_far, mut rust_far, mut rtc) = (false, false, clock(at));
     let moment = |far: bool| SET + if far { 2 * DAY } else { 0 };
     Op::command(
-        "rtc_set_utc_time_persist, kept and stored",
+        "rtc_set_utc_time_persist, changed and stored",
         both.change(move |i, o| {
             port_far = !port_far;
             entry::rtc_set_utc_time_persist(i, moment(port_far), black_box(4), 2, black_box(tick), &mut o.a) + o.a

@@ -7,10 +7,9 @@ use mathlib.Core.List.{_++_}
 use Rattle.model.specs.Basics.{isSome, when}
 use Rattle.model.specs.Codes.{returned}
 use Rattle.model.specs.Clock as C
-use Rattle.model.specs.Clock.{Clock}
+use Rattle.model.specs.Clock.{Clock, utcReports}
 use Rattle.model.specs.declared.TimeSource.the-variants.{Admin}
 use Rattle.model.specs.Answers.{wakeTimer}
-use Rattle.rtc.specs.Meaning.{keptReports}
 use Rattle.table.specs.Layout.{storeIn}
 use Rattle.image.specs.Layout.{tableIn}
 use Rattle.image.specs.Parts.{hasLists, withClock}
@@ -23,10 +22,9 @@ returns : tie.Need-returns
 returns c =
     let a = c .before .before .before .before .before .before .before .before .before .before .before .before .args in
     let s = a .image .now in
-    let u = c .before .before .before .before .before .before .set-utc-time .result in
     let k = c .before .before .before .before .before .before .set-utc-time .ensures ∙ ap (λ (x : Clock). C.setUtcTime x (a .utc-us) (a .granularity) Admin (a .tick)) (c .before .before .before .before .before .before .before .rtc-in .ensures) in (
       c .utc-time .ensures
-          ∙ ap (λ (b : Bool). returned 0 (keptReports (u .kept) ++ when b wakeTimer)) (c .before .before .before .before .before .before .before .before .before .has-lists .ensures ∙ sym (is-there (hasLists s) (storeIn (tableIn s))))
+          ∙ ap (λ (b : Bool). returned 0 (utcReports ++ when b wakeTimer)) (c .before .before .before .before .before .before .before .before .before .has-lists .ensures ∙ sym (is-there (hasLists s) (storeIn (tableIn s))))
           ∙ ap (λ (x : Result Clock Bool). returned 0 (x .effects ++ when (isSome (deviceIn s .store)) wakeTimer)) k,
       c .before .before .before .put-rtc .ensures ∙ ap (λ (x : Result Clock Bool). withClock s (x .state)) k,
     )

@@ -6,19 +6,11 @@ use Rattle.commands.proofs.codes.utc_time.Tie as tie
 
 returns : tie.Need-returns
 unfolding returned number
-returns c = rw (c .before .if1 .taken, c .if2 .taken)
+returns c = rw (c .if1 .taken)
 
 returns-2 : tie.Need-returns-2
 unfolding returned number
-returns-2 c = rw (c .before .if1 .taken, c .if2 .left)
-
-returns-3 : tie.Need-returns-3
-unfolding returned number
-returns-3 c = rw (c .before .if1 .left, c .if3 .taken)
-
-returns-4 : tie.Need-returns-4
-unfolding returned number
-returns-4 c = rw (c .before .if1 .left, c .if3 .left)
+returns-2 c = rw (c .if1 .left)
 
 pub utc-time-spec : {M : Type 1} → statement M
-utc-time-spec = tie.close (tie.spec returns returns-2 returns-3 returns-4)
+utc-time-spec = tie.close (tie.spec returns returns-2)

@@ -1,4 +1,4 @@
--- `rtc::Rtc::set_utc_time_persist` meets its contract: the setting says what it changed and kept, and the difference decides whether the moment is stored.
+-- `rtc::Rtc::set_utc_time_persist` meets its contract: the setting says what it changed, and the difference decides whether the moment is stored.
 use mathlib.Core.Path.{ap}
 use native.Mathlib.Omega.{arith}
 use borrow.Author.Tests.{le-leb, lt-leb}
@@ -17,7 +17,7 @@ returns c =
     let a = d .before .before .args in
     let day = le-leb 86400000000 (distance (a .self .«utc_us_persisted») (a .utc-us)) (omega arith) in
     let state = ap (λ (k : Clock). withPersisted k (a .utc-us)) (h .state) in
-    simp (state, h .changed, h .kept, day)
+    simp (state, h .changed, day)
 
 returns-2 : tie.Need-returns-2
 unfolding setUtcTimePersist setUtcTime aDayApart
@@ -27,7 +27,7 @@ returns-2 c =
     let h = says (r .result) _ _ _ _ _ (r .ensures) in
     let a = d .before .before .args in
     let day = lt-leb 86400000000 (distance (a .self .«utc_us_persisted») (a .utc-us)) (omega arith) in
-    simp (h .state, h .changed, h .kept, day)
+    simp (h .state, h .changed, day)
 
 pub set-utc-time-persist-spec : {M : Type 1} → statement M
 set-utc-time-persist-spec =

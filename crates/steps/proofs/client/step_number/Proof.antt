@@ -19,8 +19,8 @@ returns c =
     let events = first-is (e .«missing_trusted_time_source») (emit MissingTrustedTimeSource) (when (e .«time_failure») (emit TimeFailure)) failure (moment .before .before .with-first2 .ensures .0) in
     let all = eventEffects (e .«missing_trusted_time_source») (e .«time_failure») in
     let stored = moment-each (optionU64 (e .stored)) all events (rw (moment .before .is-there .ensures) at (moment .with-first3 .ensures .0)) in
-    let kept = reports-each (e .kept) (momentStored (optionU64 (e .stored))) all stored (source .with-first4 .ensures .0) (c .before .before .with-first5 .ensures .0) (c .before .with-first6 .ensures .0) in
-    returned-is (effectsOf e) kept (c .taken .ensures)
+    let reports = reports-each (e .applied) (momentStored (optionU64 (e .stored))) all stored (source .with-first4 .ensures .0) (c .before .before .with-first5 .ensures .0) (c .before .with-first6 .ensures .0) in
+    returned-is (effectsOf e) reports (c .taken .ensures)
 
 pub step-number-spec : {M : Type 1} → statement M
 step-number-spec =

@@ -1,12 +1,10 @@
--- `time_sync_client::Refresh::apply` meets its contract: a time is applied by `set_utc_time_persist`, and nothing else touches the clock.
+-- `time_sync_client::Refresh::apply` meets its contract: only a time touches the clock.
 use borrow.Author.Needs.{needs}
 use Rattle.time_sync_client.proofs.Refresh.apply.Statement.{statement}
 use Rattle.time_sync_client.proofs.Refresh.apply.Tie as tie
 
 returns : tie.Need-returns
-returns c =
-    let e = c .set-utc-time-persist .ensures in
-    simp (c .before .before .self .given .1) (λ i. e i .state, λ i. e i .effects)
+returns c = simp (c .before .before .self .given .1) (c .applied .ensures)
 
 returns-2 : tie.Need-returns-2
 returns-2 c = simp (c .before .enum-told .given .1) (c .unchanged .ensures)
