@@ -114,6 +114,7 @@ CHANGES = [
     (R, "_ => TimeGranularity::Minutes,", "_ => TimeGranularity::NoTime,", 1),
     (R, "if changed || self.anchor.is_none() {", "if changed {", 1,
      "a clock that is not set has granularity NoTime, which no setting takes"),
+    (R, "if changed || self.anchor.is_none() {", "{", 1),
     (R, "let changed = self.utc_us != utc_us || self.granularity != stepped || self.source != source;",
      "let changed = self.utc_us != utc_us || self.granularity != stepped;", 1),
     (R, "const GRANULARITY_ATTR_ID: AttrId = 0x01;", "const GRANULARITY_ATTR_ID: AttrId = 0x02;", 1),

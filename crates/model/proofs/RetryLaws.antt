@@ -12,7 +12,7 @@ use lib.ListN.{length}
 use lib.Pow.{pow-pos}
 use Rattle.model.specs.Basics.{isSome, keep, when, All, run}
 use Rattle.model.specs.Answers.{Effect}
-use Rattle.model.specs.Clock.{Clock, utcReports, setUtcTime, setUtcTimePersist}
+use Rattle.model.specs.Clock.{Clock, setUtcTime, setUtcTimePersist}
 use Rattle.model.specs.Retries.{Client, Refresh, Applied, NoTime, NoSource, Failure, refresh, firstRetry, due, marked, sourceMissing, timeMissing, eventsOf, doubled, Step, clockEffects, attemptOf, waitFor, sourceChanged, RETRY_MIN, TIME_EVENTS_INTERVAL}
 use Rattle.model.specs.RetryLaws.{Input, attempted, changed, step, clientFrom, Applies, BacksOff, Fails, PeriodStays, StartsOver, RetryDoubles, WaitDoubles, Kind, missingSource, timeFailure, emits, emittedAt, emissions, Apart, EventsApart}
 use Rattle.model.proofs.Facts.{by-test, All-map, keep-append, keep-when}

@@ -5,10 +5,8 @@ ghost use mathlib.Core.List.{[]};
 ghost use mathlib.Core.Path.{_≡_};
 ghost use Prim.Native.Nat.{_*_, min};
 ghost use Rattle.model.specs.Basics.{isSome};
-ghost use Rattle.model.specs.declared.TimeSource.the-variants.{NodeTimeCluster};
 ghost use Rattle.model.specs.Maybe.{optionU64};
-ghost use Rattle.model.specs.Clock.{setUtcTimePersist};
-ghost use Rattle.model.specs.Retries.{newClient, firstRetry, granularityTold, refreshTold, refresh, due, marked, sourceMissing, timeMissing, retryAfter, waitFor, nextAfter, clockAfter, clockEffects, attemptOf, attempt, nextIfSource, sourceChanged};
+ghost use Rattle.model.specs.Retries.{newClient, firstRetry, granularityTold, refreshTold, refresh, Applied, due, marked, sourceMissing, timeMissing, retryAfter, waitFor, nextAfter, clockAfter, clockEffects, attemptOf, attempt, nextIfSource, sourceChanged};
 ghost use Rattle.rtc.specs.Meaning.{optionSource, clockOf};
 ghost use Rattle.time_sync_client.specs.Meaning.{clientOf, optionUtc, optionNumber, outcomeOf, refreshOf, nextOf, settingEffects, stepOf};
 use model::GranularityRead;
@@ -374,15 +372,10 @@ fn hourly(wanted: bool, at: MaybeU64, tick: u64) -> Mark
 
 // The clock set to a source's time, which is reported also where it is equal to the clock's own.
 fn applied(rtc: Rtc, utc_us: u64, granularity: TimeGranularity, tick: u64) -> Setting
-    ensures { λ r. ⌜ (clockOf (r .rtc) ≡ setUtcTimePersist (clockOf rtc) «utc_us» granularity NodeTimeCluster tick .state)
-        × (settingEffects (r .applied) (optionU64 (r .stored)) ≡ setUtcTimePersist (clockOf rtc) «utc_us» granularity NodeTimeCluster tick .effects) ⌝ }
+    ensures { λ r. ⌜ (clockOf (r .rtc) ≡ clockAfter (clockOf rtc) (Applied «utc_us» granularity) tick)
+        × (settingEffects (r .applied) (optionU64 (r .stored)) ≡ clockEffects (clockOf rtc) (Applied «utc_us» granularity) tick) ⌝ }
 {
-    let set = rtc.set_utc_time_persist(
-        utc_us,
-        granularity,
-        TimeSource::NodeTimeCluster,
-        tick,
-    );
+    let set = rtc.set_utc_time_persist(utc_us, granularity, TimeSource::NodeTimeCluster, tick);
     let after = set.rtc;
     let stored = set.stored;
     Setting {

@@ -105,6 +105,13 @@ static void set_the_clock(void)
     const unsigned utc_set[] = {TIMESYNC_REPORT_UTC_TIME, TIMESYNC_REPORT_GRANULARITY, TIMESYNC_REPORT_TIME_SOURCE, TIMESYNC_WAKE_TIMER};
     EXPECT(TIMESYNC_ANSWER(returned) == TIMESYNC_OK && asks_for(returned, 4, utc_set));
     EXPECT(timesync_utc_time(IMAGE, 1500, &there, &value) == 0 && there == 1 && value == 12 * DAY + 500);
+    /* the same again, ten minutes later and then back at the first tick: the clock counts on from there, and is reported */
+    returned = timesync_set_utc_time(IMAGE, 12 * DAY, TIMESYNC_GRANULARITY_MICROSECONDS, 0, 0, 1000 + 10 * MINUTE);
+    EXPECT(TIMESYNC_ANSWER(returned) == TIMESYNC_OK && asks_for(returned, 4, utc_set));
+    EXPECT(timesync_utc_time(IMAGE, 1000 + 10 * MINUTE, &there, &value) == 0 && there == 1 && value == 12 * DAY);
+    returned = timesync_set_utc_time(IMAGE, 12 * DAY, TIMESYNC_GRANULARITY_MICROSECONDS, 0, 0, 1000);
+    EXPECT(TIMESYNC_ANSWER(returned) == TIMESYNC_OK && asks_for(returned, 4, utc_set));
+    EXPECT(timesync_utc_time(IMAGE, 1500, &there, &value) == 0 && there == 1 && value == 12 * DAY + 500);
     EXPECT(timesync_utc_time_granularity(IMAGE, &value) == 0 && value == TIMESYNC_GRANULARITY_MILLISECONDS);
     EXPECT(timesync_utc_time_source(IMAGE, &value) == 0 && value == TIMESYNC_SOURCE_ADMIN);
 }
@@ -193,6 +200,12 @@ static void ask_another_node(void)
     EXPECT(wait == TIMESYNC_WAIT_FOR && wait_us == MINUTE);
     returned = timesync_attempt(IMAGE, 1, 1, 13 * DAY, 1, TIMESYNC_GRANULARITY_MICROSECONDS, 3000, &wait, &wait_us);
     EXPECT(TIMESYNC_EFFECT(returned, 3) == TIMESYNC_STORE_MOMENT && wait == TIMESYNC_WAIT_FOR && wait_us == 10 * MINUTE);
+    /* the same time once more: reported, counted on from its tick, and within a day of the stored one */
+    returned = timesync_attempt(IMAGE, 1, 1, 13 * DAY, 1, TIMESYNC_GRANULARITY_MICROSECONDS, 3000 + 10 * MINUTE, &wait, &wait_us);
+    const unsigned utc_set[] = {TIMESYNC_REPORT_UTC_TIME, TIMESYNC_REPORT_GRANULARITY, TIMESYNC_REPORT_TIME_SOURCE};
+    EXPECT(TIMESYNC_ANSWER(returned) == TIMESYNC_OK && asks_for(returned, 3, utc_set));
+    EXPECT(wait == TIMESYNC_WAIT_FOR && wait_us == 10 * MINUTE);
+    EXPECT(timesync_utc_time(IMAGE, 3001 + 10 * MINUTE, &there, &value) == 0 && there == 1 && value == 13 * DAY + 1);
 }
 
 /* the clock's own settings, load and reset */
@@ -204,7 +217,10 @@ static void set_load_and_reset(void)
     uint64_t returned = timesync_rtc_set_utc_time_persist(IMAGE, DAY, 5, TIMESYNC_SOURCE_GNSS, 1, &changed);
     EXPECT(returned == TIMESYNC_UNREADABLE && changed == 1);
     returned = timesync_rtc_set_utc_time_persist(IMAGE, DAY, 4, TIMESYNC_SOURCE_GNSS, 1, &changed);
-    EXPECT(returned == (uint64_t)TIMESYNC_STORE_MOMENT << 8 && changed == 0);
+    const unsigned set_and_stored[] = {TIMESYNC_REPORT_UTC_TIME, TIMESYNC_REPORT_GRANULARITY, TIMESYNC_REPORT_TIME_SOURCE,
+                                       TIMESYNC_STORE_MOMENT};
+    EXPECT(TIMESYNC_ANSWER(returned) == TIMESYNC_OK && asks_for(returned, 4, set_and_stored) && changed == 0);
+    EXPECT(timesync_utc_time(IMAGE, 1, &there, &value) == 0 && there == 1 && value == DAY);
     EXPECT(timesync_load_clock(IMAGE, 6 * DAY, 1, DAY, 1, 9, 8, 7) == 0);
     EXPECT(timesync_utc_time(IMAGE, 9, &there, &value) == 0 && there == 0 && value == 6 * DAY);
     const unsigned clock_reset[] = {TIMESYNC_REMOVE_MOMENT, TIMESYNC_REMOVE_SOURCE};
