@@ -604,7 +604,10 @@ def script_rows():
     Device().utc(now, 5, 0).windows((0, 0)).local(0).utc(now, 2, 0).local(0).utc(now, 2, 9).local(9).utc(now + 1, 4, 9).local(10).row()
     # an installer sends the same moment ten minutes later, then by a request that cannot be read
     ten = 600_000_000
-    Device().windows((HOUR, 0)).utc(now, 2, 0).local(ten).utc(now, 2, ten).local(ten).utc(now, 0, 2 * ten).local(2 * ten).utc(now, 5, 3 * ten).local(3 * ten).row()
+    device = Device().windows((HOUR, 0)).utc(now, 2, 0).local(ten)
+    for again, granularity in enumerate((2, 0, 5), 1):
+        device.utc(now, granularity, again * ten).local(again * ten)
+    device.row()
     # held at both ends
     Device().utc(0, 3, 0).zones((-12 * HOUR, 0)).windows((0, 0)).local(0).local(12 * HOUR * 1_000_000 + 1).row()
     Device().utc(TOP, 3, 0).zones((14 * HOUR, 0)).windows((2**31 - 1, 0)).local(0).row()

@@ -25,7 +25,7 @@ module _ (c : Clock) (utc : ℕ) (g : TimeGranularity) (s : TimeSource) (tick : 
   unfolding setUtcTime
   is-set = record { utc = refl; granularity = refl; from = refl; anchor = refl; reported = refl }
 
-  -- the persisted moment is another matter
+  -- whether the moment is stored or not
   is-set-persist : IsSet utc g s tick (setUtcTimePersist c utc g s tick .state) (setUtcTimePersist c utc g s tick .effects)
   unfolding setUtcTimePersist setUtcTime
   is-set-persist =

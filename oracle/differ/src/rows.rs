@@ -265,7 +265,8 @@ impl Rows {
     fn not_set_yet(&mut self) -> Done {
         for persist in [false, true] {
             let mut world = World::new(Kind::Bare, 7, HOUR, 0);
-            for step in [Step::Set(persist, 7, NO_TIME, 0), Step::Tick(AGAIN), Step::LoadClock(7, Some(9), None), Step::Set(persist, 9, MINUTES, 0)] {
+            let (first, loaded) = (Step::Set(persist, 7, NO_TIME, 0), Step::LoadClock(7, Some(9), None));
+            for step in [first, Step::Tick(AGAIN), loaded, Step::Set(persist, 9, MINUTES, 0)] {
                 self.alike(&mut world, step)?;
             }
         }
