@@ -268,8 +268,7 @@ uint64_t timesync_reset_clock(uint8_t *image, size_t image_len, uint64_t build);
 uint64_t timesync_rtc_set_utc_time(uint8_t *image, size_t image_len, uint64_t utc_us, uint8_t granularity, uint8_t source, uint64_t tick,
                                    uint64_t *changed);
 
-/* The same, with one effect more at the end: store the moment utc_us where it is a day or more from the persisted one, changed or
- * not. */
+/* The same, with one effect more at the end, changed or not: store the moment utc_us where it is a day or more from the persisted one. */
 uint64_t timesync_rtc_set_utc_time_persist(uint8_t *image, size_t image_len, uint64_t utc_us, uint8_t granularity, uint8_t source,
                                            uint64_t tick, uint64_t *changed);
 
