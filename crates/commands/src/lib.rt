@@ -1,6 +1,8 @@
 // The calls that change an image: commands, loads and resets. A call returns its number in the lowest byte and above it the codes of
 // its effects in order, the first lowest. On a refusal what the caller lent stays as it was, but for the windows that a refused
 // SetDSTOffset empties and the change that it counts.
+#![tactic(auto)]
+
 mod arguments;
 pub mod clock;
 mod codes;

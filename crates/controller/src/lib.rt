@@ -1,5 +1,7 @@
 // The entry points for C. Each works on numbers, on slices, and on one image that the caller lends; include/timesync.h says how to call
 // them. The rules stand in the crates below; an entry point only hands over.
+#![tactic(auto)]
+
 pub mod attributes;
 pub mod client;
 pub mod clock;

@@ -1,4 +1,6 @@
 // A history of calls on a store of time_zone lists, as bytes: the calls one after the other.
+#![tactic(auto)]
+
 ghost use Rattle.std.specs.Prelude.{◌≡◌};
 ghost use Rattle.model.specs.Basics.{is_some};
 ghost use Rattle.history.specs.Calls.{read_calls};

@@ -1,4 +1,6 @@
 // Local time: UTC and the offsets of the active zone and of the last active window.
+#![tactic(auto)]
+
 ghost use Rattle.std.specs.Prelude.{cond, ◌≡◌, pos, ◌+ℤ◌, ◌*ℤ◌};
 ghost use Rattle.std.proofs.Math.Option.{none, some};
 ghost use Rattle.model.specs.Answers.{answers};

@@ -1,4 +1,6 @@
 // What is looked up in the lists of a table, in their places: nothing is copied.
+#![tactic(auto)]
+
 mod held;
 pub mod transitions;
 pub mod windows;

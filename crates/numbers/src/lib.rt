@@ -1,4 +1,6 @@
 // The numbers of granularities, time sources and refusals, and what a number from outside names.
+#![tactic(auto)]
+
 ghost use Rattle.std.specs.Prelude.{◌≡◌};
 ghost use Rattle.model.specs.Numbers.{granularity_number, option_granularity, granularity_of, source_number, option_time_source, source_of, refusal_number, option_refusal, refusal_of};
 

@@ -1,5 +1,7 @@
 // What is read of the device that an image stands for. A reading answers 0, or the number of a refusal and then what the caller lent
 // stays as it was. A value that may be missing has a mark beside it, and is 0 where it is missing. Lists are read in the image's table.
+#![tactic(auto)]
+
 pub mod clock;
 pub mod entries;
 pub mod store;

@@ -1,4 +1,6 @@
 // The bytes of the lists: sections read at a place of a slice, and the buffer of a written record.
+#![tactic(auto)]
+
 pub mod read;
 pub mod section;
 

@@ -1,5 +1,7 @@
 // A whole history of calls on a new list store in a local table, and what is looked up after it; its contract is demand 3, about the
 // answers that it computed itself.
+#![tactic(auto)]
+
 mod calls;
 mod told;
 

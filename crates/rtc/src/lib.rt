@@ -1,5 +1,7 @@
 // The clock of a node, by value: the last known UTC time, the current UTC time once it is set, and the trusted time source.
 // A call that changes the clock answers the next one, beside what decides the reports, the events and what is stored.
+#![tactic(auto)]
+
 ghost use Rattle.std.specs.Prelude.{◌≡◌, ◌+◌, ◌-◌};
 ghost use Rattle.model.specs.Basics.{held_at_top};
 ghost use Rattle.model.specs.Maybe.{option_u64};

@@ -1,4 +1,6 @@
 // The clock as one record that the caller lends, and that each call changes in its place. Who holds a clock reads it by value.
+#![tactic(auto)]
+
 ghost use Rattle.std.specs.Prelude.{◌≡◌};
 ghost use Rattle.model.specs.Maybe.{option_u64};
 ghost use Rattle.model.specs.Clock.{reset_persist, load, set_utc_time, set_utc_time_persist, set_trusted_time_source_persist};

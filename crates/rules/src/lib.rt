@@ -1,4 +1,6 @@
 // Which list requests and stored records are accepted, straight from their bytes.
+#![tactic(auto)]
+
 mod held;
 mod windows;
 mod zones;

@@ -1,4 +1,6 @@
 // Prints the coming transitions of stored lists: reads a moment and a record from standard input, and writes the text that `schedule_text` makes.
+#![tactic(auto)]
+
 use libc::STDOUT_FILENO;
 
 fn main() {

@@ -1,4 +1,6 @@
 // The text that the schedule program prints: the coming transitions of stored lists, as one whole.
+#![tactic(auto)]
+
 mod lines;
 
 ghost use Rattle.std.specs.Prelude.{◌≡◌, ◌≤◌, length};

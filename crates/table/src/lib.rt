@@ -1,5 +1,7 @@
 // The list store (the Rust's `TimeZoneStore`) in a table of lent bytes: limits, generation and both lists, each at its place and
 // changed in place.
+#![tactic(auto)]
+
 mod entries;
 pub mod layout;
 pub mod write;

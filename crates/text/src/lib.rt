@@ -1,4 +1,6 @@
 // ASCII text at a place of a slice. Every function is total: what does not fit stores nothing, and its place is answered again.
+#![tactic(auto)]
+
 ghost use Rattle.std.specs.Prelude.{◌≡◌, ◌+◌, ◌≤◌, length};
 ghost use Rattle.model.specs.Schedule.{decimal, signed_decimal};
 ghost use Rattle.word.specs.Place.{put, placed};

@@ -1,5 +1,7 @@
 // The client that sets the clock from its trusted time source, by value: attempts, hourly events and retries.
 // An attempt is a step, and so is a change of the source. A step answers the next client and clock, what to do, and what comes next.
+#![tactic(auto)]
+
 ghost use Rattle.std.specs.Prelude.{true, ◌&&◌, cond, [], ◌≡◌, ◌*◌, min};
 ghost use Rattle.model.specs.Basics.{is_some};
 ghost use Rattle.model.specs.Maybe.{option_u64};

@@ -1,4 +1,6 @@
 // The transition timer, a look at a time: what was last seen goes in and comes out.
+#![tactic(auto)]
+
 pub mod due;
 pub mod looks;
 

@@ -1,4 +1,6 @@
 // Runs the test vectors of standard input, a row to a line, and writes each row with its answer.
+#![tactic(auto)]
+
 mod bytes;
 mod clock;
 mod device;

@@ -1,5 +1,7 @@
 // Numbers at a place of a slice, little endian and in two's complement. Every public function is total: a place past the end reads as
 // missing, and stores nothing.
+#![tactic(auto)]
+
 mod held;
 pub mod or_zero;
 pub mod spelled;
