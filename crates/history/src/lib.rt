@@ -9,7 +9,7 @@ ghost use Rattle.history.specs.Places.{call_at};
 use word::MaybeU32;
 
 // A call: its kind, the place and the length of its argument, and the place after it.
-#[derive(Drop)]
+#[derive(Clone, Copy)]
 pub enum CallRead {
     NoCall,
     Call(u8, usize, usize, usize),

@@ -18,7 +18,7 @@ use model::MaybeI32;
 use rtc::UtcTime;
 
 // Null, the refusal AttributeNotFound, or a moment.
-#[derive(Drop)]
+#[derive(Clone, Copy)]
 pub enum LocalTime {
     Null,
     NotFound,

@@ -13,7 +13,7 @@ use model::MaybeU64;
 use table::layout::{WINDOW_SIZE, WINDOWS, ZONE_SIZE, ZONES};
 
 // A zone, its name by its place in the table; where it has none, place and length are 0.
-#[derive(Drop)]
+#[derive(Clone, Copy)]
 pub struct ZoneShown {
     pub offset: i32,
     pub valid_at: u64,
@@ -23,14 +23,14 @@ pub struct ZoneShown {
 }
 
 // A zone of the listing, or that there is none at the index.
-#[derive(Drop)]
+#[derive(Clone, Copy)]
 pub struct ZoneListed {
     pub there: bool,
     pub zone: ZoneShown,
 }
 
 // A window of summer time; a missing end means that it is open.
-#[derive(Drop)]
+#[derive(Clone, Copy)]
 pub struct DSTOffsetEntry {
     pub offset: i32,
     pub valid_starting: u64,
@@ -38,14 +38,14 @@ pub struct DSTOffsetEntry {
 }
 
 // A window of the listing, or that there is none at the index.
-#[derive(Drop)]
+#[derive(Clone, Copy)]
 pub struct DSTOffsetListed {
     pub there: bool,
     pub window: DSTOffsetEntry,
 }
 
 // The moments walked, the starting moment first, zeros after the last; and how many steps it took.
-#[derive(Drop)]
+#[derive(Clone, Copy)]
 pub struct Walk {
     pub moments: [u64; 41],
     pub steps: usize,

@@ -7,7 +7,7 @@ use crate::{DSTOffsetRead, NamePlace, RecordRead, SectionRead, TimeZoneRead, sec
 use model::{MaybeI32, MaybeU64};
 
 // The offset, the start and the mark of an entry.
-#[derive(Drop)]
+#[derive(Clone, Copy)]
 enum Head {
     Missing,
     Is(i32, u64, u8),

@@ -6,21 +6,21 @@ use crate::SectionRead;
 use crate::read::{dst_offsets_at, time_zones_at};
 
 // The bytes, and the place of the next section.
-#[derive(Drop)]
+#[derive(Clone, Copy)]
 pub struct SectionReader<'a> {
     pub src: &'a [u8],
     pub at: usize,
 }
 
 // How many entries a section has.
-#[derive(Drop)]
+#[derive(Clone, Copy)]
 pub enum SectionCount {
     Unreadable,
     Entries(u8),
 }
 
 // What a step found, and where the reader stands after it: past the section, or where it stood.
-#[derive(Drop)]
+#[derive(Clone, Copy)]
 pub struct SectionTaken {
     pub at: usize,
     pub found: SectionCount,

@@ -15,7 +15,7 @@ mod setting;
 mod trusted;
 
 // The fabric that installed the source, a node of that fabric, and the endpoint of the node that tells the time.
-#[derive(Drop)]
+#[derive(Clone, Copy)]
 pub struct TrustedTimeSource {
     pub fab_idx: u8,
     pub node_id: u64,
@@ -23,13 +23,13 @@ pub struct TrustedTimeSource {
 }
 
 // A trusted time source that may be missing.
-#[derive(Drop)]
+#[derive(Clone, Copy)]
 pub enum MaybeSource {
     Nothing,
     Is(TrustedTimeSource),
 }
 
-#[derive(Drop)]
+#[derive(Clone, Copy)]
 pub struct Rtc {
     // Last known UTC time, in microseconds since the Matter epoch.
     pub utc_us: u64,
@@ -43,34 +43,34 @@ pub struct Rtc {
 }
 
 // The current UTC time, or the last known one where the clock is not set.
-#[derive(Drop)]
+#[derive(Clone, Copy)]
 pub enum UtcTime {
     Reliable(u64),
     LastKnown(u64),
 }
 
 // Whether a load was taken.
-#[derive(Drop)]
+#[derive(Clone, Copy)]
 pub enum LoadAnswer {
     Done,
     Refused(Refusal),
 }
 
-#[derive(Drop)]
+#[derive(Clone, Copy)]
 pub struct Loaded {
     pub rtc: Rtc,
     pub answer: LoadAnswer,
 }
 
 // The clock after a setting, which is always to be reported, and whether something changed.
-#[derive(Drop)]
+#[derive(Clone, Copy)]
 pub struct UtcTimeSet {
     pub rtc: Rtc,
     pub changed: bool,
 }
 
 // The same, with the moment that is to be stored.
-#[derive(Drop)]
+#[derive(Clone, Copy)]
 pub struct UtcTimePersisted {
     pub rtc: Rtc,
     pub changed: bool,
@@ -78,28 +78,28 @@ pub struct UtcTimePersisted {
 }
 
 // What became of the trusted time source.
-#[derive(Drop)]
+#[derive(Clone, Copy)]
 pub enum SourceChange {
     Same,
     Installed,
     Cleared,
 }
 
-#[derive(Drop)]
+#[derive(Clone, Copy)]
 pub struct SourceSet {
     pub rtc: Rtc,
     pub change: SourceChange,
 }
 
 // What becomes of the trusted time source in flash.
-#[derive(Drop)]
+#[derive(Clone, Copy)]
 pub enum SourceStored {
     Same,
     Stored(TrustedTimeSource),
     Removed,
 }
 
-#[derive(Drop)]
+#[derive(Clone, Copy)]
 pub struct SourcePersisted {
     pub rtc: Rtc,
     pub stored: SourceStored,

@@ -10,14 +10,14 @@ use model::{MaybeU64, TimeGranularity, TimeSource};
 use rtc::{LoadAnswer, MaybeSource, Rtc, SourceStored};
 
 // What a persisting setting answers: whether something changed, and the moment that is to be stored.
-#[derive(Drop)]
+#[derive(Clone, Copy)]
 pub struct UtcTimePersistAnswer {
     pub changed: bool,
     pub stored: MaybeU64,
 }
 
 // The clock after a persisting setting, beside its answer.
-#[derive(Drop)]
+#[derive(Clone, Copy)]
 struct AfterPersisting {
     rtc: Rtc,
     answer: UtcTimePersistAnswer,

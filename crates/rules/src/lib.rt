@@ -12,7 +12,7 @@ use model::Refusal;
 use record::{RecordRead, SectionRead};
 
 // Whether a list or a record is accepted, and why not.
-#[derive(Drop)]
+#[derive(Clone, Copy)]
 pub enum Verdict {
     Accepted,
     TurnedDown(Refusal),

@@ -11,7 +11,7 @@ use model::{MaybeU64, Refusal};
 use record::DSTOffsetRead;
 
 // The window before, if there is one: its start and its end.
-#[derive(Drop)]
+#[derive(Clone, Copy)]
 enum Before {
     Nothing,
     Is(u64, MaybeU64),

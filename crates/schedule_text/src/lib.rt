@@ -23,7 +23,7 @@ const MOMENT_SIZE: usize = 8;
 const MOST_INPUT: usize = 970;
 
 // Some text, zeros after it, and how many bytes it has.
-#[derive(Drop)]
+#[derive(Clone, Copy)]
 pub struct Text {
     pub bytes: [u8; MOST_TEXT],
     pub length: usize,

@@ -13,7 +13,7 @@ use model::{GranularityRead, MaybeU64, TimeGranularity, TimeSource};
 use rtc::{MaybeSource, Rtc};
 
 // The period and the next retry are in microseconds.
-#[derive(Drop)]
+#[derive(Clone, Copy)]
 pub struct TimeSyncClient {
     pub period: u64,
     pub retry: u64,
@@ -23,35 +23,35 @@ pub struct TimeSyncClient {
 }
 
 // The UTC time of a source, which may be null.
-#[derive(Drop)]
+#[derive(Clone, Copy)]
 pub enum Utc {
     Null,
     At(u64),
 }
 
 // The number of a source's granularity, which may be missing. It comes from another node and may be any number.
-#[derive(Drop)]
+#[derive(Clone, Copy)]
 pub enum Granularity {
     Missing,
     Number(u8),
 }
 
 // What a source answers.
-#[derive(Drop)]
+#[derive(Clone, Copy)]
 pub struct Reading {
     pub utc_time: Utc,
     pub granularity: Granularity,
 }
 
 // The outcome of an exchange with a source.
-#[derive(Drop)]
+#[derive(Clone, Copy)]
 pub enum Outcome {
     Reading(Reading),
     Failed,
 }
 
 // What an attempt got.
-#[derive(Drop)]
+#[derive(Clone, Copy)]
 enum Refresh {
     Applied(u64, TimeGranularity),
     NoTime,
@@ -60,7 +60,7 @@ enum Refresh {
 }
 
 // What comes next: an attempt at once, a wait in microseconds or until the source changes, or a wait until it changes.
-#[derive(Drop)]
+#[derive(Clone, Copy)]
 pub enum Wait {
     AttemptNow,
     For(u64),
@@ -68,7 +68,7 @@ pub enum Wait {
 }
 
 // What a step asks for, in this order: to report the time that it applied, to store a moment, and to emit each event.
-#[derive(Drop)]
+#[derive(Clone, Copy)]
 pub struct Effects {
     pub applied: bool,
     pub stored: MaybeU64,
@@ -76,7 +76,7 @@ pub struct Effects {
     pub time_failure: bool,
 }
 
-#[derive(Drop)]
+#[derive(Clone, Copy)]
 pub struct Step {
     pub client: TimeSyncClient,
     pub rtc: Rtc,
@@ -85,7 +85,7 @@ pub struct Step {
 }
 
 // The clock after an attempt, whether a time was applied to it, and the moment that is to be stored.
-#[derive(Drop)]
+#[derive(Clone, Copy)]
 struct Setting {
     rtc: Rtc,
     applied: bool,
@@ -93,14 +93,14 @@ struct Setting {
 }
 
 // Whether an event is emitted, and when an event of its kind last was.
-#[derive(Drop)]
+#[derive(Clone, Copy)]
 struct Mark {
     emitted: bool,
     at: MaybeU64,
 }
 
 // What comes after an attempt, and the retry of the next one.
-#[derive(Drop)]
+#[derive(Clone, Copy)]
 struct Pause {
     next: Wait,
     retry: u64,

@@ -7,7 +7,7 @@ pub mod looks;
 use lookups::ZoneShown;
 
 // What a look sees: the zone's offset, whether a window is active, and whether one is usable.
-#[derive(Drop)]
+#[derive(Clone, Copy)]
 pub struct Seen {
     pub offset: i32,
     pub active: bool,
@@ -15,14 +15,14 @@ pub struct Seen {
 }
 
 // What the timer last saw; nothing before its first look at a reliable clock.
-#[derive(Drop)]
+#[derive(Clone, Copy)]
 pub enum LastSeen {
     Nothing,
     Saw(Seen),
 }
 
 // How long the timer sleeps: it never looks, until it is woken, or so many microseconds or until it is woken.
-#[derive(Drop)]
+#[derive(Clone, Copy)]
 pub enum Sleep {
     Never,
     UntilWoken,
@@ -30,7 +30,7 @@ pub enum Sleep {
 }
 
 // What was seen from now on, which events are due and what they carry, a name by its place in the table, and the sleep.
-#[derive(Drop)]
+#[derive(Clone, Copy)]
 pub struct Look {
     pub seen: LastSeen,
     pub zone_status: bool,

@@ -4,7 +4,7 @@ use rtc::{Loaded, MaybeSource, Rtc, SourcePersisted, UtcTimeSet};
 use rtc_lent::UtcTimePersistAnswer;
 
 // The clock after a persisting setting, beside what it answers.
-#[derive(Drop)]
+#[derive(Clone, Copy)]
 pub(crate) struct AfterPersisting {
     pub rtc: Rtc,
     pub answer: UtcTimePersistAnswer,

@@ -18,7 +18,7 @@ use model::{MaybeI32, MaybeU64};
 pub(crate) const WORD: usize = 8;
 
 // A 32-bit number that may be missing.
-#[derive(Drop)]
+#[derive(Clone, Copy)]
 pub enum MaybeU32 {
     Nothing,
     Is(u32),

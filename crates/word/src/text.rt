@@ -11,7 +11,7 @@ use crate::WORD;
 const TOPS: u64 = 0x8080_8080_8080_8080;
 
 // What follows a first byte: `left` bytes, the first of them from `lo` to `hi` and the others from 0x80 to 0xBF.
-#[derive(Drop)]
+#[derive(Clone, Copy)]
 enum Lead {
     Bad,
     Due { left: u8, lo: u8, hi: u8 },
