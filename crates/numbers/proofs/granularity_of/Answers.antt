@@ -12,18 +12,23 @@ unfolding granularity_of
 above n h = sym (past_end granularities n h)
 
 pub returns-in-0 : goal.returns-in-0
+unfolding granularity_of
 returns-in-0 c = ap granularity_of {x = 0} {y = c.args.n} (search rules)
 
 pub returns-in-1 : goal.returns-in-1
+unfolding granularity_of
 returns-in-1 c = ap granularity_of {x = 1} {y = c.args.n} (search rules)
 
 pub returns-in-2 : goal.returns-in-2
+unfolding granularity_of
 returns-in-2 c = ap granularity_of {x = 2} {y = c.args.n} (search rules)
 
 pub returns-in-3 : goal.returns-in-3
+unfolding granularity_of
 returns-in-3 c = ap granularity_of {x = 3} {y = c.args.n} (search rules)
 
 pub returns-in-4 : goal.returns-in-4
+unfolding granularity_of
 returns-in-4 c = ap granularity_of {x = 4} {y = c.args.n} (search rules)
 
 pub returns-in-5-to-255 : goal.returns-in-5-to-255

@@ -14,33 +14,43 @@ above zero h = absurd (omega arith)
 above (suc n) h = sym (past_end refusals n (omega arith))
 
 pub returns-in-0 : goal.returns-in-0
+unfolding refusal_of
 returns-in-0 c = ap refusal_of {x = 0} {y = c.args.n} (search rules)
 
 pub returns-in-1 : goal.returns-in-1
+unfolding refusal_of
 returns-in-1 c = ap refusal_of {x = 1} {y = c.args.n} (search rules)
 
 pub returns-in-2 : goal.returns-in-2
+unfolding refusal_of
 returns-in-2 c = ap refusal_of {x = 2} {y = c.args.n} (search rules)
 
 pub returns-in-3 : goal.returns-in-3
+unfolding refusal_of
 returns-in-3 c = ap refusal_of {x = 3} {y = c.args.n} (search rules)
 
 pub returns-in-4 : goal.returns-in-4
+unfolding refusal_of
 returns-in-4 c = ap refusal_of {x = 4} {y = c.args.n} (search rules)
 
 pub returns-in-5 : goal.returns-in-5
+unfolding refusal_of
 returns-in-5 c = ap refusal_of {x = 5} {y = c.args.n} (search rules)
 
 pub returns-in-6 : goal.returns-in-6
+unfolding refusal_of
 returns-in-6 c = ap refusal_of {x = 6} {y = c.args.n} (search rules)
 
 pub returns-in-7 : goal.returns-in-7
+unfolding refusal_of
 returns-in-7 c = ap refusal_of {x = 7} {y = c.args.n} (search rules)
 
 pub returns-in-8 : goal.returns-in-8
+unfolding refusal_of
 returns-in-8 c = ap refusal_of {x = 8} {y = c.args.n} (search rules)
 
 pub returns-in-9 : goal.returns-in-9
+unfolding refusal_of
 returns-in-9 c = ap refusal_of {x = 9} {y = c.args.n} (search rules)
 
 pub returns-in-10-to-255 : goal.returns-in-10-to-255

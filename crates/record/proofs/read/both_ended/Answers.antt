@@ -15,4 +15,4 @@ pub returns-in-Entries-ended : goal.returns-in-Entries-ended
 returns-in-Entries-ended c =
     let second : let a = c.args in record_before a.zones a.at (is_whole a.len (read_before a.end a.windows)) ≡ windows_found c.in-Entries.zone_count a.at c.ended.result = let a = c.args in
     ap (record_before a.zones a.at) (sym c.ended.ensures) ∙ ap (λ (z : SectionCount). record_before z a.at c.ended.result) c.in-Entries.is in
-    sym (second ∙ ap (windows_found _ _) c.window_count_lem.given.1)
+    sym (second ∙ ap (windows_found _ _) c.in-Entries-ended.is)

@@ -10,11 +10,8 @@ use lib.ListN.{length, get_or}
 use Rattle.record.specs.declared.DSTOffsetRead.TheVariants as E
 use Rattle.record.specs.Fronts.{place_after, window_at, next_window, window_from, section_window}
 use Rattle.record.proofs.Indexed.{place_more, place_stops}
+use Rattle.record.proofs.read.dst_offset.Invariants.{step}
 use Rattle.record.proofs.read.dst_offset.Goals as goal
-
--- the place after the entry at a place
-abbrev step : List ℕ → ℕ → Option ℕ
-step s at = next_window (window_at s at)
 
 past : (s : List ℕ) (i : ℕ) → get_or s 0 0 ≤ i → section_window s i ≡ E.Unreadable
 unfolding section_window

@@ -11,13 +11,6 @@ use Rattle.word.proofs.Answers.{Present, u64_present, u64_missing}
 use Rattle.record.proofs.Front.{window_short, window_open, window_other_mark, window_cut, window_ended}
 use Rattle.record.proofs.read.dst_offset_at.Goals as goal
 
--- no other mark is left
-is_one : (e : tie.Else2) → let a = e.before.before.before.before.before.before.before.args in
-    get_or a.s.now (a.at + 12) 0 ≡ 1
-is_one e =
-    let b = e.before.before.before in
-    omega (arith, (told b).mark, e.before.if1.false, e.if2.false)
-
 pub returns-in_default : goal.returns-in_default
 returns-in_default c =
     let a = c.args in
@@ -27,7 +20,7 @@ pub overflow_add-result : goal.overflow_add-result
 overflow_add-result c =
     let told : let a = c.args in There a.s.now a.at c.in-Is.offset c.in-Is.valid_starting c.in-Is.mark = let a = c.args in
     head_found a.s.now a.at _ _ _ (sym c.head_at.ensures ∙ c.in-Is.is) in
-    omega (arith, (told).there)
+    omega (arith, told.there)
 
 pub returns-then-mark-eq0 : goal.returns-then-mark-eq0
 returns-then-mark-eq0 c =
@@ -50,31 +43,33 @@ pub overflow_add-at : goal.overflow_add-at
 overflow_add-at c =
     let told : let a = c.args in There a.s.now a.at c.in-Is.offset c.in-Is.valid_starting c.in-Is.mark = let a = c.args in
     head_found a.s.now a.at _ _ _ (sym c.head_at.ensures ∙ c.in-Is.is) in
-    omega (arith, (told).there)
+    omega (arith, told.there)
 
 pub returns-in_default-u64_at : goal.returns-in_default-u64_at
 returns-in_default-u64_at c =
     let told : let a = c.args in There a.s.now a.at c.in-Is.offset c.in-Is.valid_starting c.in-Is.mark = let a = c.args in
     head_found a.s.now a.at _ _ _ (sym c.head_at.ensures ∙ c.in-Is.is) in
+    let is_one : let a = c.args in get_or a.s.now (a.at + 12) 0 ≡ 1 = omega (arith, told.mark, c.if-mark-eq0.false, c.if-mark-gt1.false) in
     let a = c.args in
     let t = told in
-    sym (window_cut a.s.now a.at t.there (is_one c) (u64_missing a.s.now (a.at + 13) (sym c.in_default-u64_at.is ∙ c.u64_at.ensures)))
+    sym (window_cut a.s.now a.at t.there is_one (u64_missing a.s.now (a.at + 13) (sym c.in_default-u64_at.is ∙ c.u64_at.ensures)))
 
 pub overflow_add-result-2 : goal.overflow_add-result-2
 overflow_add-result-2 c =
     let ended : let a = c.args in Present 8 a.s.now (a.at + 13) c.in-Is-u64_at.valid_until = let a = c.args in
     u64_present a.s.now (a.at + 13) _ (sym c.in-Is-u64_at.is ∙ c.u64_at.ensures) in
-    omega (arith, (ended).there)
+    omega (arith, ended.there)
 
 pub returns : goal.returns
 returns c =
     let told : let a = c.args in There a.s.now a.at c.in-Is.offset c.in-Is.valid_starting c.in-Is.mark = let a = c.args in
     head_found a.s.now a.at _ _ _ (sym c.head_at.ensures ∙ c.in-Is.is) in
     let back : to_z w32 (of_z w32 c.in-Is.offset) ≡ c.in-Is.offset = search rules in
+    let is_one : let a = c.args in get_or a.s.now (a.at + 12) 0 ≡ 1 = omega (arith, told.mark, c.if-mark-eq0.false, c.if-mark-gt1.false) in
     let ended : let a = c.args in Present 8 a.s.now (a.at + 13) c.in-Is-u64_at.valid_until = let a = c.args in
     u64_present a.s.now (a.at + 13) _ (sym c.in-Is-u64_at.is ∙ c.u64_at.ensures) in
     let a = c.args in
     let t = told in
     let p = ended in
     let k : a.at + 21 ≡ a.at + 13 + 8 = omega arith in
-    rw (back, t.offset, t.start, p.is, k) (sym (window_ended a.s.now a.at t.there (is_one c) p.there))
+    rw (back, t.offset, t.start, p.is, k) (sym (window_ended a.s.now a.at t.there is_one p.there))

@@ -10,11 +10,8 @@ use lib.ListN.{length, get_or}
 use Rattle.record.specs.declared.TimeZoneRead.TheVariants as E
 use Rattle.record.specs.Fronts.{place_after, zone_at, next_zone, zone_from, section_zone}
 use Rattle.record.proofs.Indexed.{place_more, place_stops}
+use Rattle.record.proofs.read.time_zone.Invariants.{step}
 use Rattle.record.proofs.read.time_zone.Goals as goal
-
--- the place after the entry at a place
-abbrev step : List ℕ → ℕ → Option ℕ
-step s at = next_zone (zone_at s at)
 
 past : (s : List ℕ) (i : ℕ) → get_or s 0 0 ≤ i → section_zone s i ≡ E.Unreadable
 unfolding section_zone

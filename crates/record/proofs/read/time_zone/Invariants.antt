@@ -12,6 +12,10 @@ use Rattle.record.specs.Fronts.{place_after, zone_at, next_zone, zone_from, sect
 use Rattle.record.proofs.Indexed.{place_more, place_stops}
 use Rattle.record.proofs.read.time_zone.Given as goal
 
+-- the place after the entry at a place
+abbrev pub step : List ℕ → ℕ → Option ℕ
+step s at = next_zone (zone_at s at)
+
 abbrev pub invariant-loop-k : goal.invariant-loop-k
 invariant-loop-k l = (l.k ≤ l.i) × (place_after (step l.s) l.k ≡ some l.at)
 
