@@ -6,9 +6,8 @@ use borrow.Author.Tests.{leb-true, leb-false, le-leb, lt-leb}
 use borrow.Author.Rules.{rules}
 use lib.Dec.{leb}
 use Rattle.model.proofs.Facts.{by_test}
-use Rattle.time_sync_client.proofs.is_due.Statement.{statement}
-use Rattle.time_sync_client.proofs.is_due.Tie as tie
 use Rattle.model.specs.Retries.{TIME_EVENTS_INTERVAL}
+use Rattle.time_sync_client.proofs.is_due.Goals as goal
 
 -- comparing the difference is comparing the sum
 since : (mark interval tick : ℕ) → mark ≤ tick → leb interval (tick - mark) ≡ leb (mark + interval) tick
@@ -17,17 +16,11 @@ since mark interval tick h =
     (λ e. rw e (le-leb interval (tick - mark) (omega (arith, leb-true (mark + interval) tick e))))
     (λ e. rw e (lt-leb interval (tick - mark) (omega (arith, leb-false (mark + interval) tick e))))
 
-returns : tie.Need-returns
-returns c =
-    let at = c.before.before.at.given in
-    let tick = c.before.before.before.before.args.tick in
-    let before : tick < at.0.0 = c.if1.true in
-    simp (at.1, lt-leb (at.0.0 + TIME_EVENTS_INTERVAL) tick (omega arith))
+pub returns-then-tick-mark : goal.returns-then-tick-mark
+returns-then-tick-mark c =
+    let tick = c.args.tick in
+    let before : tick < c.in-Is.mark = c.if-tick-mark.true in
+    simp (c.in-Is.is, lt-leb (c.in-Is.mark + TIME_EVENTS_INTERVAL) tick (omega arith))
 
-returns-3 : tie.Need-returns-3
-returns-3 c =
-    let at = c.before.before.at.given in
-    simp (at.1, since at.0.0 TIME_EVENTS_INTERVAL c.before.before.before.before.args.tick c.if1.false)
-
-pub is-due-spec : {M : Type 1} → statement M
-is-due-spec = tie.close (tie.spec (λ c. search rules) (λ c. search rules) returns (λ c. search rules) returns-3)
+pub returns-else-tick-mark : goal.returns-else-tick-mark
+returns-else-tick-mark c = simp (c.in-Is.is, since c.in-Is.mark TIME_EVENTS_INTERVAL c.args.tick c.if-tick-mark.false)
