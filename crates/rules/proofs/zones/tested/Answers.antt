@@ -12,36 +12,47 @@ use Rattle.rules.proofs.Walk.{Walked, Here, begins, ends, full, there, unread, r
 use Rattle.rules.proofs.Entries.{zone_seen, zones}
 use Rattle.rules.proofs.zones.tested.Goals as goal
 
-abbrev here : tie.At-loop invariant-loop decreases-loop → Here zones
-here l =
-    let a = l.before.before.args in
-    record { s = a.s.now; from = a.at; n = a.n; limit = a.limit; at = l.loop.next; index = l.loop.index; kept = l.loop.before; walked = l.loop.invariant }
-
 pub loop-index-init : goal.loop-index-init
 loop-index-init c = let a = c.args in begins zones a.s.now a.at a.n a.limit
 
 pub returns-then-index-limit : goal.returns-then-index-limit
-returns-then-index-limit c = full zones (here c) c.loop-index-test.true (omega (arith, c.if-index-limit.true))
+returns-then-index-limit c =
+    let here : Here zones = let a = c.args in
+    record { s = a.s.now; from = a.at; n = a.n; limit = a.limit; at = c.loop-index.next; index = c.loop-index.index; kept = c.loop-index.before; walked = c.loop-index.invariant } in
+    full zones here c.loop-index-test.true (omega (arith, c.if-index-limit.true))
 
 pub zone_there-requires : goal.zone_there-requires
-zone_there-requires c = there zones (here c) c.loop-index-test.true c.requires (ap zone_seen u)
+zone_there-requires c =
+    let here : Here zones = let a = c.args in
+    record { s = a.s.now; from = a.at; n = a.n; limit = a.limit; at = c.loop-index.next; index = c.loop-index.index; kept = c.loop-index.before; walked = c.loop-index.invariant } in
+    λ u. there zones here c.loop-index-test.true c.requires (ap zone_seen u)
 
 pub returns-in-Unreadable : goal.returns-in-Unreadable
-returns-in-Unreadable c = unread zones (here c) c.loop-index-test.true _ (ap zone_seen (sym c.zone_there.ensures ∙ c.in-Unreadable.is))
+returns-in-Unreadable c =
+    let here : Here zones = let a = c.args in
+    record { s = a.s.now; from = a.at; n = a.n; limit = a.limit; at = c.loop-index.next; index = c.loop-index.index; kept = c.loop-index.before; walked = c.loop-index.invariant } in
+    unread zones here c.loop-index-test.true _ (ap zone_seen (sym c.zone_there.ensures ∙ c.in-Unreadable.is))
 
 pub returns-then-not-passes : goal.returns-then-not-passes
 returns-then-not-passes c =
+    let here : Here zones = let a = c.args in
+    record { s = a.s.now; from = a.at; n = a.n; limit = a.limit; at = c.loop-index.next; index = c.loop-index.index; kept = c.loop-index.before; walked = c.loop-index.invariant } in
     let back : to_z w32 (of_z w32 c.in-Entry.offset) ≡ c.in-Entry.offset = search rules in
     let test :  let l = c.loop-index in c.passes.result ≡ zone_passes l.index l.before c.in-Entry.offset c.in-Entry.start c.in-Entry.name = let l = c.loop-index in
     c.passes.ensures ∙ ap (λ (o : ℤ). zone_passes l.index l.before o c.in-Entry.start c.in-Entry.name) back in
-    refuses zones (here c) c.loop-index-test.true _ (ap zone_seen (sym c.zone_there.ensures ∙ c.in-Entry.is)) (λ e. omega (arith, e, c.if-index-limit.false)) (sym test ∙ not-true _ c.if-not-passes.true-raw)
+    refuses zones here c.loop-index-test.true _ (ap zone_seen (sym c.zone_there.ensures ∙ c.in-Entry.is)) (λ e. omega (arith, e, c.if-index-limit.false)) (sym test ∙ not-true _ c.if-not-passes.true-raw)
 
 pub loop-index-preserved : goal.loop-index-preserved
 loop-index-preserved c =
+    let here : Here zones = let a = c.args in
+    record { s = a.s.now; from = a.at; n = a.n; limit = a.limit; at = c.loop-index.next; index = c.loop-index.index; kept = c.loop-index.before; walked = c.loop-index.invariant } in
     let back : to_z w32 (of_z w32 c.in-Entry.offset) ≡ c.in-Entry.offset = search rules in
     let test :  let l = c.loop-index in c.passes.result ≡ zone_passes l.index l.before c.in-Entry.offset c.in-Entry.start c.in-Entry.name = let l = c.loop-index in
     c.passes.ensures ∙ ap (λ (o : ℤ). zone_passes l.index l.before o c.in-Entry.start c.in-Entry.name) back in
-    goes_on_lem zones (here c) c.loop-index-test.true _ (ap zone_seen (sym c.zone_there.ensures ∙ c.in-Entry.is)) (λ e. omega (arith, e, c.if-index-limit.false)) (sym test ∙ not-false _ c.if-not-passes.false-raw)
+    goes_on_lem zones here c.loop-index-test.true _ (ap zone_seen (sym c.zone_there.ensures ∙ c.in-Entry.is)) (λ e. omega (arith, e, c.if-index-limit.false)) (sym test ∙ not-false _ c.if-not-passes.false-raw)
 
 pub returns : goal.returns
-returns c = ends zones (here c) c.loop-index-test.false
+returns c =
+    let here : Here zones = let a = c.args in
+    record { s = a.s.now; from = a.at; n = a.n; limit = a.limit; at = c.loop-index.next; index = c.loop-index.index; kept = c.loop-index.before; walked = c.loop-index.invariant } in
+    ends zones here c.loop-index-test.false
