@@ -8,8 +8,7 @@ use Rattle.record.specs.Written.{record_of}
 use Rattle.word.proofs.Writes.{zeros, length_zeros, drop_zeros}
 use Rattle.table.specs.Layout.{lists_in, table_size}
 use Rattle.table.proofs.Bounds.{record_most_lem}
-use Rattle.table.proofs.write.record.Statement.{statement}
-use Rattle.table.proofs.write.record.Tie as tie
+use Rattle.table.proofs.write.record.Goals as goal
 
 -- the record of a list, written over zeros
 written : (l : Lists) (out : List ℕ) (n : ℕ) → out ≡ put (zeros 962) 0 (record_bytes l) → n ≡ length (record_bytes l) → record { bytes = out; length = n } ≡ record_of l
@@ -24,23 +23,19 @@ blank : record { bytes = zeros 962; length = 2 } ≡ record_of empty
 unfolding record_of record_bytes zones_bytes windows_bytes all_bytes
 blank = refl
 
-returns : tie.Need-returns
-returns c =
-    let s = c.before.before.args.table.now in
+pub returns-then-table-lt-SIZE : goal.returns-then-table-lt-SIZE
+returns-then-table-lt-SIZE c =
+    let s = c.args.table.now in
     let f : leb table_size (length s) ≡ false = lt-leb table_size (length s) (omega arith) in
     blank ∙ sym (ap (λ (b : Bool). record_of (cond b (lists_in s) empty)) f)
 
-put-record-requires : tie.Need-put-record-requires
-put-record-requires c κs =
-    let s = c.before.before.before.args.table.now in
+pub put_record-length-requires : goal.put_record-length-requires
+put_record-length-requires c =
+    let s = c.args.table.now in
     (omega arith, omega (arith, record_most_lem s, length_zeros 962))
 
-returns-2 : tie.Need-returns-2
-returns-2 c =
-    let p = c.before in
-    let s = p.before.before.before.before.args.table.now in
+pub returns : goal.returns
+returns c =
+    let s = c.args.table.now in
     let f : leb table_size (length s) ≡ true = le-leb table_size (length s) (omega arith) in
-    written (lists_in s) _ _ p.put_record.ensures.0 p.put_record.ensures.1 ∙ sym (ap (λ (b : Bool). record_of (cond b (lists_in s) empty)) f)
-
-pub record-spec : {M : Type 1} → statement M
-record-spec = tie.close (tie.spec returns (λ c. search rules) put-record-requires returns-2)
+    written (lists_in s) _ _ c.put_record-length.ensures.0 c.put_record-length.ensures.1 ∙ sym (ap (λ (b : Bool). record_of (cond b (lists_in s) empty)) f)
