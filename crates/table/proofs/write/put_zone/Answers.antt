@@ -26,7 +26,7 @@ bounds-out-at c =
     let long : let a = c.args in length (head_bytes a.table.now a.place) ≡ 13 = let a = c.args in head_long a.table.now (λ i. (c.type_inv.table i).fits) a.place (omega (arith, c.requires.0)) in
     let head : let a = c.args in Wrote a.out.now a.at (head_bytes a.table.now a.place) c.put_head.new.out = let a = c.args in
     wrote_put (wrote_none (omega (arith, c.requires.1))) _ a.at _ (omega arith) (omega (arith, c.requires.1, long, zone_least (zone_at a.table.now a.place))) c.put_head.ensures.1 in
-    let named : Named c.args.table.now c.args.place c.least.result = let a = c.args in
+    let named : Named c.args.table.now c.args.place c.least-n.result = let a = c.args in
     let t = a.table.now in
     let n = c.least-n.result in
     let m : n ≤ 64 = omega (arith, c.least-n.ensures) in
@@ -44,7 +44,7 @@ bounds-out-at c =
 pub copy-requires : goal.copy-requires
 copy-requires c =
     let long : let a = c.args in length (head_bytes a.table.now a.place) ≡ 13 = let a = c.args in head_long a.table.now (λ i. (c.type_inv.table i).fits) a.place (omega (arith, c.requires.0)) in
-    let named : Named c.args.table.now c.args.place c.least.result = let a = c.args in
+    let named : Named c.args.table.now c.args.place c.least-n.result = let a = c.args in
     let t = a.table.now in
     let n = c.least-n.result in
     let m : n ≤ 64 = omega (arith, c.least-n.ensures) in
@@ -66,7 +66,7 @@ copy-requires c =
 pub shape_of-out-then-put_head : goal.shape_of-out-then-put_head
 shape_of-out-then-put_head c =
     let long : let a = c.args in length (head_bytes a.table.now a.place) ≡ 13 = let a = c.args in head_long a.table.now (λ i. (c.type_inv.table i).fits) a.place (omega (arith, c.requires.0)) in
-    let named : Named c.args.table.now c.args.place c.least.result = let a = c.args in
+    let named : Named c.args.table.now c.args.place c.least-n.result = let a = c.args in
     let t = a.table.now in
     let n = c.least-n.result in
     let m : n ≤ 64 = omega (arith, c.least-n.ensures) in
@@ -93,7 +93,7 @@ shape_of-out-then-put_head c =
 pub returns-then-put_head : goal.returns-then-put_head
 returns-then-put_head c =
     let long : let a = c.args in length (head_bytes a.table.now a.place) ≡ 13 = let a = c.args in head_long a.table.now (λ i. (c.type_inv.table i).fits) a.place (omega (arith, c.requires.0)) in
-    let named : Named c.args.table.now c.args.place c.least.result = let a = c.args in
+    let named : Named c.args.table.now c.args.place c.least-n.result = let a = c.args in
     let t = a.table.now in
     let n = c.least-n.result in
     let m : n ≤ 64 = omega (arith, c.least-n.ensures) in
