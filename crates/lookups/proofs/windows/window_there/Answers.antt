@@ -11,8 +11,7 @@ use Rattle.model.specs.Bytes.{signed}
 use Rattle.word.specs.Place.{word_at}
 use Rattle.lookups.specs.declared.DSTOffsetEntry.{DSTOffsetEntry}
 use Rattle.lookups.specs.Shown.{window_listed}
-use Rattle.lookups.proofs.windows.window_there.Statement.{statement}
-use Rattle.lookups.proofs.windows.window_there.Tie as tie
+use Rattle.lookups.proofs.windows.window_there.Goals as goal
 
 abbrev entry_with : ℤ → ℕ → MaybeU64 → DSTOffsetEntry
 entry_with o t u = record { offset = o; valid_starting = t; valid_until = u }
@@ -20,19 +19,12 @@ entry_with o t u = record { offset = o; valid_starting = t; valid_until = u }
 alike : (o p : ℤ) (t v : ℕ) (u w : MaybeU64) → o ≡ p → t ≡ v → u ≡ w → window_listed (some (entry_with o t u)) ≡ window_listed (some (entry_with p v w))
 alike o p t v u w e f g = rw (e, f, g)
 
-returns : tie.Need-returns
+pub returns : goal.returns
 returns c =
-    let i = c.before.before in
-    let w = i.before in
-    let s = w.before.before.args.table.now in
-    let z = i.i32-at.result in
+    let s = c.args.table.now in
+    let z = c.i32_at.result in
     let back : to_z w32 (of_z w32 z) ≡ z = search rules in
     alike _ _ _ _ _ _
-    (back ∙ i.i32-at.ensures ∙ ap (λ (p : ℕ). signed (word_at 4 s p)) w.window-place.ensures)
-    (c.before.u64-at.ensures ∙ ap (λ (p : ℕ). word_at 8 s (p + 4)) w.window-place.ensures)
+    (back ∙ c.i32_at.ensures ∙ ap (λ (p : ℕ). signed (word_at 4 s p)) c.window_place-at.ensures)
+    (c.u64_at.ensures ∙ ap (λ (p : ℕ). word_at 8 s (p + 4)) c.window_place-at.ensures)
     c.window_end.ensures
-
-pub window-there-spec : {M : Type 1} → statement M
-window-there-spec =
-    tie.close
-    (tie.spec (λ c κs. search rules) (λ c κs. search rules) (λ c. search rules) (λ c κs. search rules) (λ c κs. search rules) returns)

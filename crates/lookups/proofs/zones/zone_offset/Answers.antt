@@ -6,17 +6,13 @@ use mir.Val.{to_z, of_z}
 use Rattle.model.specs.Lookups.{ZoneNow}
 use Rattle.lookups.specs.declared.ZoneShown.{ZoneShown}
 use Rattle.lookups.proofs.Views.{active_shown}
-use Rattle.lookups.proofs.zones.zone_offset.Statement.{statement}
-use Rattle.lookups.proofs.zones.zone_offset.Tie as tie
+use Rattle.lookups.proofs.zones.zone_offset.Goals as goal
 
-returns : tie.Need-returns
+pub returns : goal.returns
 returns c =
-    let a = c.before.before.before.args in
-    let z = c.before.active-time-zone.result in
+    let a = c.args in
+    let z = c.active_time_zone-zone.result in
     let back : to_z w32 (of_z w32 z.offset) ≡ z.offset = search rules in
     back
-    ∙ ap (λ (t : ZoneShown). t.offset) c.before.active-time-zone.ensures
+    ∙ ap (λ (t : ZoneShown). t.offset) c.active_time_zone-zone.ensures
     ∙ ap (λ (t : ZoneNow). t.offset) (active_shown a.table.now a.utc)
-
-pub zone-offset-spec : {M : Type 1} → statement M
-zone-offset-spec = tie.close (tie.spec (λ c κs. search rules) returns)
