@@ -12,8 +12,7 @@ use Rattle.model.specs.LocalTime.{local_time}
 use Rattle.rtc.specs.declared.UtcTime.{UtcTime}
 use Rattle.rtc.specs.Meaning.{reading_of}
 use Rattle.table.specs.Layout.{lists_in}
-use Rattle.local_time.proofs.local_time.Statement.{statement}
-use Rattle.local_time.proofs.local_time.Tie as tie
+use Rattle.local_time.proofs.local_time.Goals as goal
 
 -- an unreliable clock comes first
 unreliable : (utc : ℕ) (l : Option Lists) → answers none ≡ local_time (last_known utc) l
@@ -24,16 +23,13 @@ unreliable utc l = refl
 abbrev at : Bool → List ℕ → UtcTime → Answer (Option ℕ)
 at there s t = local_time (reading_of t) (cond there (some (lists_in s)) none)
 
-returns : tie.Need-returns
-returns c =
-    let a = c.before.before.before.args in
+pub returns-in-LastKnown : goal.returns-in-LastKnown
+returns-in-LastKnown c =
+    let a = c.args in
     let s = a.table.now in
-    unreliable c.enum_told.given.0.0 (cond a.there (some (lists_in s)) none) ∙ sym (ap (at a.there s) c.enum_told.given.1)
+    unreliable c.in-LastKnown.field-0 (cond a.there (some (lists_in s)) none) ∙ sym (ap (at a.there s) c.in-LastKnown.is)
 
-returns-2 : tie.Need-returns-2
-returns-2 c =
-    let a = c.before.before.before.before.before.args in
-    c.at-moment.ensures ∙ sym (ap (at a.there a.table.now) c.before.before.reading.given.1)
-
-pub local-time-spec : {M : Type 1} → statement M
-local-time-spec = tie.close (tie.spec (λ c. search rules) (λ c. search rules) (λ c κs. search rules) returns returns-2)
+pub returns-in-Reliable : goal.returns-in-Reliable
+returns-in-Reliable c =
+    let a = c.args in
+    c.at_moment.ensures ∙ sym (ap (at a.there a.table.now) c.in-Reliable.is)

@@ -21,8 +21,7 @@ use Rattle.transition_timer.specs.declared.LastSeen.TheVariants.{Saw}
 use Rattle.transition_timer.specs.declared.Sleep.{Sleep}
 use Rattle.transition_timer.specs.declared.Look.{Look}
 use Rattle.transition_timer.specs.Meaning.{seen_of, timer_of, seen_from, sleep_by, look_seeing}
-use Rattle.transition_timer.proofs.looks.look_at.Statement.{statement}
-use Rattle.transition_timer.proofs.looks.look_at.Tie as tie
+use Rattle.transition_timer.proofs.looks.look_at.Goals as goal
 
 -- what is seen, from what the calls answered
 seen_is : (z zone : ZoneShown) (o : Option ℤ) (m : MaybeI32) (active usable u : Bool) (new : Seen)
@@ -41,20 +40,13 @@ look_is : (last : LastSeen) (z zone told : ZoneShown) (next : MaybeU64) (o : Opt
 look_is last z zone told next o now a new seen zs ds da de s ez en ea ex e1 e2 e3 e4 e5 e6 =
     simp (e6, e5, e4, e3, e2, e1, ex, moment_back o, ea, en, ez)
 
-returns : tie.Need-returns
+pub returns : goal.returns
 returns c =
-    let c5 = c.before.before.before.before.before in
-    let c9 = c5.before.before.before.before in
-    let g = c9.before.before.before.before.args in
+    let g = c.args in
     let o = active_offset (lists_in g.table.now) g.utc in
-    let off = c9.before.active-dst-offset.ensures in
-    let zone = c9.before.before.active-time-zone.ensures in
-    let new = seen_is _ _ o _ _ _ _ _ zone off c9.is_there.ensures c5.before.before.before.dst-usable.ensures c5.before.before.seen-from.ensures in
-    look_is g.last _ _ _ _ (next_transition (lists_in g.table.now) g.utc) g.utc _ _ _ _ _ _ _ _ zone new (c9.is_there.ensures ∙ ap (λ (m : MaybeI32). is_some (option_i32 m)) off ∙ ap is_some (offset_back o))
-    c.before.next-transition.ensures c5.before.zone-due.ensures c.before.before.before.before.zone-told.ensures
-    c5.active-due.ensures c.before.before.before.mark-told.ensures c.before.before.empty-due.ensures c.sleep-until.ensures
-
-pub look-at-spec : {M : Type 1} → statement M
-look-at-spec =
-    tie.close
-    (tie.spec (λ c κs. search rules) (λ c κs. search rules) (λ c κs. search rules) (λ c κs. search rules) (λ c κs. search rules) (λ c κs. search rules) (λ c κs. search rules) (λ c κs. search rules) (λ c κs. search rules) (λ c κs. search rules) (λ c κs. search rules) (λ c κs. search rules) returns)
+    let off = c.active_dst_offset.ensures in
+    let zone = c.active_time_zone-zone.ensures in
+    let new = seen_is _ _ o _ _ _ _ _ zone off c.is_there-active.ensures c.dst_usable.ensures c.seen_from-new.ensures in
+    look_is g.last _ _ _ _ (next_transition (lists_in g.table.now) g.utc) g.utc _ _ _ _ _ _ _ _ zone new (c.is_there-active.ensures ∙ ap (λ (m : MaybeI32). is_some (option_i32 m)) off ∙ ap is_some (offset_back o))
+    c.next_transition.ensures c.zone_due-zone_status.ensures c.zone_told.ensures
+    c.active_due-dst_status.ensures c.mark_told.ensures c.empty_due.ensures c.sleep_until.ensures

@@ -12,8 +12,7 @@ use Rattle.model.specs.Lookups.{active_zone, last_active_window, offset_of}
 use Rattle.model.specs.Maybe.{option_i32}
 use Rattle.model.proofs.Maybe.{offset_back}
 use Rattle.table.specs.Layout.{lists_in}
-use Rattle.local_time.proofs.shown_at.Statement.{statement}
-use Rattle.local_time.proofs.shown_at.Tie as tie
+use Rattle.local_time.proofs.shown_at.Goals as goal
 
 -- a moment moved by two offsets
 abbrev moved_by : ℕ → ℤ → Option ℤ → ℕ
@@ -24,17 +23,14 @@ shown_is : (l : Lists) (utc : ℕ) → moved_by utc (active_zone l utc).offset (
 unfolding shown combined_offset
 shown_is l utc = refl
 
-returns : tie.Need-returns
+pub returns : goal.returns
 returns c =
-    let a = c.before.before.before.before.args in
+    let a = c.args in
     let l = lists_in a.table.now in
-    let zone = c.before.before.zone-offset in
-    let window = c.before.window-offset in
+    let zone = c.zone_offset-zone in
+    let window = c.window_offset-window in
     let back : to_z w32 (of_z w32 zone.result) ≡ zone.result = search rules in
     c.shown_by.ensures
     ∙ ap (λ (z : ℤ). moved_by a.utc z (option_i32 window.result)) (back ∙ zone.ensures)
     ∙ ap (moved_by a.utc (active_zone l a.utc).offset) (ap option_i32 window.ensures ∙ offset_back (offset_of (last_active_window l a.utc)))
     ∙ shown_is l a.utc
-
-pub shown-at-spec : {M : Type 1} → statement M
-shown-at-spec = tie.close (tie.spec (λ c κs. search rules) (λ c κs. search rules) (λ c κs. search rules) returns)

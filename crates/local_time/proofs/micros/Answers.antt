@@ -9,8 +9,7 @@ use mir.Syntax.{w32, w64}
 use mir.Val.{SFits, to_z, of_z}
 use mir.Facts.{to_z-of_z}
 use Rattle.local_time.proofs.Sizes.{widens, widened, mag_add, mag_scale}
-use Rattle.local_time.proofs.micros.Statement.{statement}
-use Rattle.local_time.proofs.micros.Tie as tie
+use Rattle.local_time.proofs.micros.Goals as goal
 
 -- an `i32` as the code reads it after the cast to `i64`
 abbrev wide : ℤ → ℤ
@@ -32,23 +31,20 @@ module _ (a b : ℤ) (f : SFits w32 a) (g : SFits w32 b) where
   scaled_fits : SFits w64 (to_z w64 (of_z w64 (wide a +ℤ wide b)) *ℤ pos 1000000)
   scaled_fits = rw scaled (record { sfits = lt_trans (mag_scale (a +ℤ b) 1000000 (2 ^ 32) (lit< tt) size) (lit< tt) })
 
-cast-result : tie.Need-overflow-cast-result
-cast-result c = widens _ c.ranges.zone
+pub overflow_cast-result : goal.overflow_cast-result
+overflow_cast-result c = widens _ c.ranges.zone
 
-cast-result-2 : tie.Need-overflow-cast-result-2
-cast-result-2 c = widens _ c.ranges.window
+pub overflow_cast-result-2 : goal.overflow_cast-result-2
+overflow_cast-result-2 c = widens _ c.ranges.window
 
-add-result : tie.Need-overflow-add-result
-add-result c = sum_fits _ _ c.ranges.zone c.ranges.window
+pub overflow_add-result : goal.overflow_add-result
+overflow_add-result c = sum_fits _ _ c.ranges.zone c.ranges.window
 
-mul-result : tie.Need-overflow-mul-result
-mul-result c = scaled_fits _ _ c.ranges.zone c.ranges.window
+pub overflow_mul-result : goal.overflow_mul-result
+overflow_mul-result c = scaled_fits _ _ c.ranges.zone c.ranges.window
 
-returns : tie.Need-returns
+pub returns : goal.returns
 returns c =
     let f = c.ranges.zone in
     let g = c.ranges.window in
     to_z-of_z {w = w64} (scaled_fits _ _ f g) ∙ scaled _ _ f g
-
-pub micros-spec : {M : Type 1} → statement M
-micros-spec = tie.close (tie.spec cast-result cast-result-2 add-result mul-result returns)

@@ -9,8 +9,7 @@ use Rattle.model.specs.Lists.{Lists}
 use Rattle.model.specs.Answers.{answers, refused}
 use Rattle.model.specs.Clock.{reliable}
 use Rattle.model.specs.LocalTime.{local_moment, local_time}
-use Rattle.local_time.proofs.at_moment.Statement.{statement}
-use Rattle.local_time.proofs.at_moment.Tie as tie
+use Rattle.local_time.proofs.at_moment.Goals as goal
 
 -- a list store decides, and none is a refusal
 with-lists : (utc : ℕ) (l : Lists) (there : Bool) → there ≡ true → answers (local_moment l utc) ≡ local_time (reliable utc) (cond there (some l) none)
@@ -21,11 +20,8 @@ with_none : (utc : ℕ) (l : Lists) (there : Bool) → there ≡ false → refus
 unfolding local_time
 with_none utc l there e = rw e refl
 
-returns : tie.Need-returns
-returns c = c.in-lists.ensures ∙ with-lists _ _ _ c.before.if1.true
+pub returns-then-there : goal.returns-then-there
+returns-then-there c = c.in_lists.ensures ∙ with-lists _ _ _ c.if-there.true
 
-returns-2 : tie.Need-returns-2
-returns-2 c = with_none _ _ _ c.if1.false
-
-pub at-moment-spec : {M : Type 1} → statement M
-at-moment-spec = tie.close (tie.spec (λ c κs. search rules) returns returns-2)
+pub returns : goal.returns
+returns c = with_none _ _ _ c.if-there.false
