@@ -46,8 +46,8 @@ fn answered(
     generation: &mut u64,
 ) -> u64
     requires { table_size ≤ length table.now }
-    ensures value { result ≡ number_of (answered table.now start at (length moments.old) (length name.old) (length out.old)) }
-    ensures generation_after { record { moments = moments.exit.now; steps = steps.new; name = name.new; zone = zone.new; named = named.new; name_used = name_used.new; active = active.new; window = window.new; usable = usable.new; has_next = has_next.new; next = next.new; out = out.new; used = used.new; generation = generation.new }
+    ensures number { result ≡ number_of (answered table.now start at (length moments.old) (length name.old) (length out.old)) }
+    ensures outputs { record { moments = moments.exit.now; steps = steps.new; name = name.new; zone = zone.new; named = named.new; name_used = name_used.new; active = active.new; window = window.new; usable = usable.new; has_next = has_next.new; next = next.new; out = out.new; used = used.new; generation = generation.new }
         ≡ lent_after (answered table.now start at (length moments.entry.now) (length name.old) (length out.old))
         (record { moments = moments.entry.now; steps = steps.old; name = name.old; zone = zone.old; named = named.old; name_used = name_used.old; active = active.old; window = window.old; usable = usable.old; has_next = has_next.old; next = next.old; out = out.old; used = used.old; generation = generation.old }) }
 {
@@ -95,11 +95,11 @@ pub extern "C" fn timesync_replay(
     used: &mut u64,
     generation: &mut u64,
 ) -> u64
-    ensures value { result ≡ number_of (replayed (record { zone_limit = zone_limit; window_limit = window_limit }) history.now start at (length moments.old) (length name.old) (length out.old)) }
-    ensures generation_after { record { moments = moments.exit.now; steps = steps.new; name = name.new; zone = zone.new; named = named.new; name_used = name_used.new; active = active.new; window = window.new; usable = usable.new; has_next = has_next.new; next = next.new; out = out.new; used = used.new; generation = generation.new }
+    ensures number { result ≡ number_of (replayed (record { zone_limit = zone_limit; window_limit = window_limit }) history.now start at (length moments.old) (length name.old) (length out.old)) }
+    ensures outputs { record { moments = moments.exit.now; steps = steps.new; name = name.new; zone = zone.new; named = named.new; name_used = name_used.new; active = active.new; window = window.new; usable = usable.new; has_next = has_next.new; next = next.new; out = out.new; used = used.new; generation = generation.new }
         ≡ lent_after (replayed (record { zone_limit = zone_limit; window_limit = window_limit }) history.now start at (length moments.entry.now) (length name.old) (length out.old))
         (record { moments = moments.entry.now; steps = steps.old; name = name.old; zone = zone.old; named = named.old; name_used = name_used.old; active = active.old; window = window.old; usable = usable.old; has_next = has_next.old; next = next.old; out = out.old; used = used.old; generation = generation.old }) }
-    ensures replay_claim { ReplayClaim (record { zone_limit = zone_limit; window_limit = window_limit }) history.now start at result
+    ensures claim { ReplayClaim (record { zone_limit = zone_limit; window_limit = window_limit }) history.now start at result
         (record { moments = moments.exit.now; steps = steps.new; name = name.new; zone = zone.new; named = named.new; name_used = name_used.new; active = active.new; window = window.new; usable = usable.new; has_next = has_next.new; next = next.new; out = out.new; used = used.new; generation = generation.new }) }
 {
     let mut table = [0u8; SIZE];

@@ -15,4 +15,4 @@ returns c =
     let a = c.offset_of in
     let b = c.offset_of-2 in
     c.same_offset.ensures
-    ∙ both _ _ _ _ (to_z-of_z {w = w32} (record { sfits = a.type-inv }) ∙ a.ensures) (to_z-of_z {w = w32} (record { sfits = b.type-inv }) ∙ b.ensures)
+    ∙ both _ _ _ _ (to_z-of_z {w = w32} (record { sfits = a.type_inv }) ∙ a.ensures) (to_z-of_z {w = w32} (record { sfits = b.type_inv }) ∙ b.ensures)

@@ -1,0 +1,6 @@
+-- `image::parts::rtc_at` meets its contract.
+use borrow.Author.Rules.{rules}
+use Rattle.image.proofs.parts.rtc_at.Goals as goal
+
+pub returns : goal.returns
+returns c = rw (c.u64_at.ensures, c.u64_at-2.ensures, c.granularity_at.ensures, c.source_at.ensures, c.maybe_at.ensures, c.trusted_at.ensures)

@@ -1,0 +1,6 @@
+-- `image::place::mark_at` meets its contract.
+use borrow.Author.Rules.{rules}
+use Rattle.image.proofs.place.mark_at.Goals as goal
+
+pub returns : goal.returns
+returns c = rw c.u8_at.ensures
