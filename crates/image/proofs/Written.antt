@@ -82,7 +82,7 @@ wrote_stores {xs = xs} [] at k w e h = wrote_as w (xs ++ []) (sym (append-nil xs
 wrote_stores {xs = xs} {out = out} (y ∷ ys) at k w e h =
     let v = wrote_byte w y (at + k) (set out (at + k) y) e (omega arith) refl in
     let l = length-append xs (y ∷ []) in
-    wrote_as (wrote_stores ys at (suc k) v (omega arith) (omega arith)) (xs ++ (y ∷ ys)) (append_assoc xs (y ∷ []) ys)
+    wrote_as (wrote_stores {xs = xs ++ (y ∷ [])} {out = set out (at + k) y} ys at (suc k) v (omega arith) (omega arith)) (xs ++ (y ∷ ys)) (append_assoc xs (y ∷ []) ys)
 
 pub wrote_four : (s : List ℕ) (at a b c d : ℕ) (s₁ s₂ s₃ s₄ : List ℕ) → at + 32 ≤ length s → s₁ ≡ placed s at (bytes 8 a) → s₂ ≡ placed s₁ (at + 8) (bytes 8 b)
     → s₃ ≡ placed s₂ (at + 8 + 8) (bytes 8 c) → s₄ ≡ placed s₃ (at + 8 + 8 + 8) (bytes 8 d) → Wrote s at (four a b c d) s₄
