@@ -1,0 +1,46 @@
+-- `codes::dst_offset_refused` meets its contract.
+use mathlib.Core.Bool.{Bool, false}
+use mathlib.Core.List.{List, [], ◌∷◌}
+use mathlib.Core.Path.{◌≡◌, refl, sym, ap, ◌∙◌}
+use Prim.Native.Nat.{ℕ}
+use borrow.Author.Rules.{rules}
+use denote.Enum.Declared.{tag_of}
+use types.Run.{OneOf, miss}
+use Rattle.model.specs.declared.Refusal.{Refusal}
+use Rattle.model.specs.declared.Refusal.TheVariants as R
+use Rattle.model.specs.Numbers.{refusal_number}
+use Rattle.model.specs.Basics.{when}
+use Rattle.model.specs.Bytes.{number}
+use Rattle.model.specs.Answers.{wake_timer}
+use Rattle.model.specs.Codes.{returned}
+use Rattle.model.specs.contracts.Refusal.{the_type}
+use Rattle.table.specs.Left.{empties}
+use Rattle.commands.proofs.codes.dst_offset_refused.Goals as goal
+
+-- the causes that the last arm takes
+abbrev others : List ℕ
+others = 0 ∷ 3 ∷ 4 ∷ 5 ∷ 6 ∷ 7 ∷ 8 ∷ []
+
+kept : (cause : Refusal) → OneOf others (tag_of the_type cause) → false ≡ empties cause
+kept R.Unreadable h = refl
+kept R.ConstraintError h = absurd (miss others 1 tt h)
+kept R.ResourceExhausted h = absurd (miss others 2 tt h)
+kept R.InvalidCommand h = refl
+kept R.CommandNotFound h = refl
+kept R.AttributeNotFound h = refl
+kept R.BadRecord h = refl
+kept R.BadLimits h = refl
+kept R.NoSpace h = refl
+
+pub returns-in-ConstraintError : goal.returns-in-ConstraintError
+unfolding returned number
+returns-in-ConstraintError c = rw c.in-ConstraintError.is
+
+pub returns-in-ResourceExhausted : goal.returns-in-ResourceExhausted
+unfolding returned number
+returns-in-ResourceExhausted c = rw c.in-ResourceExhausted.is
+
+pub returns-in_default : goal.returns-in_default
+returns-in_default c =
+    let cause = c.args.cause in
+    c.refusal.ensures ∙ ap (λ (b : Bool). returned (refusal_number cause) (when b wake_timer)) (kept cause c.in_default.in_default-own.keys3)

@@ -1,0 +1,29 @@
+-- `readings::store::dst_table_empty` meets its contract.
+use borrow.Author.Rules.{rules}
+use Rattle.model.specs.Lookups as L
+use mathlib.Core.Bool.{Bool}
+use Rattle.model.specs.Answers.{Answer, answers}
+use Rattle.model.specs.Handler as H
+use Rattle.model.specs.Store.{Store}
+use Rattle.readings.proofs.Answered.{store_refused, store_read, image_sized, refused_number, refused_leaves, answered_number, answered_leaves}
+use Rattle.readings.proofs.store.dst_table_empty.Goals as goal
+
+abbrev read : Store → Answer Bool
+read t = answers (L.table_empty t.lists)
+
+pub returns-then-refusal-ne-TAKEN : goal.returns-then-refusal-ne-TAKEN
+unfolding H.table_empty
+returns-then-refusal-ne-TAKEN c =
+    let a = c.args in
+    let r = store_refused a.image.now read c.lists_refusal-refusal.result c.lists_refusal-refusal.ensures c.if-refusal-ne-TAKEN.true in
+    (refused_number r, refused_leaves r _ _)
+
+pub slice_bounds-table-end : goal.slice_bounds-table-end
+slice_bounds-table-end c = image_sized c.args.image.now c.lists_refusal-refusal.result c.lists_refusal-refusal.ensures c.if-refusal-ne-TAKEN.false
+
+pub returns : goal.returns
+unfolding H.table_empty
+returns c =
+    let a = c.args in
+    let e = store_read a.image.now read c.lists_refusal-refusal.result c.lists_refusal-refusal.ensures c.if-refusal-ne-TAKEN.false in
+    (answered_number e, answered_leaves e _ _ _ c.table_empty.ensures)

@@ -1,0 +1,6 @@
+-- `steps::client::put_step` meets its contract.
+use borrow.Author.Rules.{rules}
+use Rattle.steps.proofs.client.put_step.Goals as goal
+
+pub returns : goal.returns
+returns c = rw (← c.put_rtc.ensures) c.put_client.ensures

@@ -1,0 +1,19 @@
+-- `steps::client::step_number` meets its contract.
+use borrow.Author.Rules.{rules}
+use Rattle.model.specs.Basics.{when}
+use Rattle.model.specs.Maybe.{option_u64}
+use Rattle.model.specs.Answers.{emit, MissingTrustedTimeSource, TimeFailure}
+use Rattle.rtc.specs.Meaning.{moment_stored}
+use Rattle.time_sync_client.specs.Meaning.{event_effects, effects_of}
+use Rattle.steps.proofs.Returned.{first_is, last_is, moment_each, reports_each, returned_is}
+use Rattle.steps.proofs.client.step_number.Goals as goal
+
+pub returns : goal.returns
+returns c =
+    let e = c.args.e in
+    let failure = last_is e.time_failure (emit TimeFailure) c.with_first-failure.ensures.0 in
+    let events = first_is e.missing_trusted_time_source (emit MissingTrustedTimeSource) (when e.time_failure (emit TimeFailure)) failure c.with_first-events.ensures.0 in
+    let all = event_effects e.missing_trusted_time_source e.time_failure in
+    let stored = moment_each (option_u64 e.stored) all events (rw c.is_there.ensures at c.with_first-moment.ensures.0) in
+    let reports = reports_each e.applied (moment_stored (option_u64 e.stored)) all stored c.with_first-source.ensures.0 c.with_first-granularity.ensures.0 c.with_first.ensures.0 in
+    returned_is (effects_of e) reports c.taken.ensures
