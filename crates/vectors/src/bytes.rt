@@ -4,27 +4,27 @@ use model::MaybeU64;
 use record::{DSTOffsetRead, NamePlace, RecordRead, SectionRead, TimeZoneRead};
 
 // Whether the bytes are well-formed UTF-8.
-pub(crate) fn utf8(s: &[u8]) {
+pub(crate) fn utf8(rt: &impl Print, s: &[u8]) {
     if word::text::utf8(s) {
-        text::words(b"well-formed");
+        text::words(rt, b"well-formed");
         return;
     }
-    text::words(b"malformed");
+    text::words(rt, b"malformed");
 }
 
 // Writes one zone of a section, and how many bytes its name has.
-fn zone(s: &[u8], i: usize) {
+fn zone(rt: &impl Print, s: &[u8], i: usize) {
     match record::read::time_zone(s, i) {
-        TimeZoneRead::Unreadable => text::words(b"unreadable"),
+        TimeZoneRead::Unreadable => text::words(rt, b"unreadable"),
         TimeZoneRead::Entry(offset, valid_at, name, _) => {
-            text::signed(offset);
-            text::words(b" from ");
-            text::decimal(valid_at);
+            text::signed(rt, offset);
+            text::words(rt, b" from ");
+            text::decimal(rt, valid_at);
             match name {
                 NamePlace::Nothing => {}
                 NamePlace::At(_, n) => {
-                    text::words(b" named by ");
-                    text::decimal(n as u64);
+                    text::words(rt, b" named by ");
+                    text::decimal(rt, n as u64);
                 }
             }
         }
@@ -32,18 +32,18 @@ fn zone(s: &[u8], i: usize) {
 }
 
 // Writes one window of a section.
-fn window(s: &[u8], i: usize) {
+fn window(rt: &impl Print, s: &[u8], i: usize) {
     match record::read::dst_offset(s, i) {
-        DSTOffsetRead::Unreadable => text::words(b"unreadable"),
+        DSTOffsetRead::Unreadable => text::words(rt, b"unreadable"),
         DSTOffsetRead::Entry(offset, valid_starting, valid_until, _) => {
-            text::signed(offset);
-            text::words(b" from ");
-            text::decimal(valid_starting);
+            text::signed(rt, offset);
+            text::words(rt, b" from ");
+            text::decimal(rt, valid_starting);
             match valid_until {
-                MaybeU64::Nothing => text::words(b", open"),
+                MaybeU64::Nothing => text::words(rt, b", open"),
                 MaybeU64::Is(end) => {
-                    text::words(b" to ");
-                    text::decimal(end);
+                    text::words(rt, b" to ");
+                    text::decimal(rt, end);
                 }
             }
         }
@@ -51,51 +51,47 @@ fn window(s: &[u8], i: usize) {
 }
 
 // Writes how many entries a section has, and whether it can be read at all.
-fn count(r: SectionRead) -> usize {
+fn count(rt: &impl Print, r: SectionRead) -> usize {
     match r {
         SectionRead::Unreadable => {
-            text::words(b"unreadable");
+            text::words(rt, b"unreadable");
             0
         }
         SectionRead::Entries(n, _) => {
-            text::decimal(n as u64);
+            text::decimal(rt, n as u64);
             n as usize
         }
     }
 }
 
 // Writes the zones of a section.
-pub(crate) fn zones(s: &[u8]) {
-    let n = count(record::read::time_zones(s));
-    let mut i: usize = 0;
-    while i < n {
-        text::words(b"; ");
-        zone(s, i);
-        i += 1;
+pub(crate) fn zones(rt: &impl Print, s: &[u8]) {
+    let n = count(rt, record::read::time_zones(s));
+    for i in 0..n {
+        text::words(rt, b"; ");
+        zone(rt, s, i);
     }
 }
 
 // Writes the windows of a section.
-pub(crate) fn windows(s: &[u8]) {
-    let n = count(record::read::dst_offsets(s));
-    let mut i: usize = 0;
-    while i < n {
-        text::words(b"; ");
-        window(s, i);
-        i += 1;
+pub(crate) fn windows(rt: &impl Print, s: &[u8]) {
+    let n = count(rt, record::read::dst_offsets(s));
+    for i in 0..n {
+        text::words(rt, b"; ");
+        window(rt, s, i);
     }
 }
 
 // Writes how many zones and windows a record has.
-pub(crate) fn record(s: &[u8]) {
+pub(crate) fn record(rt: &impl Print, s: &[u8]) {
     match record::read::record(s) {
-        RecordRead::Unreadable => text::words(b"unreadable"),
+        RecordRead::Unreadable => text::words(rt, b"unreadable"),
         RecordRead::Sections(zones, at, windows) => {
-            text::decimal(zones as u64);
-            text::words(b" zones, ");
-            text::decimal(windows as u64);
-            text::words(b" windows from byte ");
-            text::decimal(at as u64);
+            text::decimal(rt, zones as u64);
+            text::words(rt, b" zones, ");
+            text::decimal(rt, windows as u64);
+            text::words(rt, b" windows from byte ");
+            text::decimal(rt, at as u64);
         }
     }
 }

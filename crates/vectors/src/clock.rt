@@ -64,29 +64,35 @@ fn size_within(letter: u8, left: usize) -> usize
 }
 
 // Writes a word and a number.
-fn numbered(name: &[u8], n: u64) {
-    text::words(name);
-    text::decimal(n);
+fn numbered(rt: &impl Print, name: &[u8], n: u64) {
+    text::words(rt, name);
+    text::decimal(rt, n);
 }
 
 // Writes the fabric index, the node and the endpoint of a source.
-fn told_source(source: TrustedTimeSource) {
-    numbered(b" ", source.fab_idx as u64);
-    numbered(b" ", source.node_id);
-    numbered(b" ", source.endpoint as u64);
+fn told_source(rt: &impl Print, source: TrustedTimeSource) {
+    numbered(rt, b" ", source.fab_idx as u64);
+    numbered(rt, b" ", source.node_id);
+    numbered(rt, b" ", source.endpoint as u64);
 }
 
 // Writes whether a setting changed something.
-fn told_setting(changed: bool) {
+fn told_setting(rt: &impl Print, changed: bool) {
     if changed {
-        text::words(b"changed");
+        text::words(rt, b"changed");
     } else {
-        text::words(b"same");
+        text::words(rt, b"same");
     }
 }
 
 // A setting.
-fn set(rtc: Rtc, s: &[u8], granularity: TimeGranularity, source: TimeSource) -> Rtc {
+fn set(
+    rt: &impl Print,
+    rtc: Rtc,
+    s: &[u8],
+    granularity: TimeGranularity,
+    source: TimeSource,
+) -> Rtc {
     let after = held::set_utc_time(
         rtc,
         u64_at(s, ARGUMENT),
@@ -94,38 +100,44 @@ fn set(rtc: Rtc, s: &[u8], granularity: TimeGranularity, source: TimeSource) -> 
         source,
         u64_at(s, TICK),
     );
-    told_setting(after.changed);
+    told_setting(rt, after.changed);
     after.rtc
 }
 
 // A setting that has its moment stored where it is a day or more from the persisted one.
-fn persist(rtc: Rtc, s: &[u8], granularity: TimeGranularity, source: TimeSource) -> Rtc {
+fn persist(
+    rt: &impl Print,
+    rtc: Rtc,
+    s: &[u8],
+    granularity: TimeGranularity,
+    source: TimeSource,
+) -> Rtc {
     let moment = u64_at(s, ARGUMENT);
     let after = held::set_utc_time_persist(rtc, moment, granularity, source, u64_at(s, TICK));
     let answer = after.answer;
-    told_setting(answer.changed);
+    told_setting(rt, answer.changed);
     let stored = answer.stored;
     match stored {
-        MaybeU64::Nothing => text::words(b", not stored"),
-        MaybeU64::Is(utc_us) => numbered(b", stored ", utc_us),
+        MaybeU64::Nothing => text::words(rt, b", not stored"),
+        MaybeU64::Is(utc_us) => numbered(rt, b", stored ", utc_us),
     }
     after.rtc
 }
 
 // A setting: moment, granularity, time source, tick; a number that names no granularity or no time source changes nothing.
-fn setting(rtc: Rtc, s: &[u8], persists: bool) -> Rtc {
+fn setting(rt: &impl Print, rtc: Rtc, s: &[u8], persists: bool) -> Rtc {
     let GranularityRead::Is(granularity) = numbers::granularity_of(u8_at(s, GRANULARITY)) else {
-        text::words(b"no granularity");
+        text::words(rt, b"no granularity");
         return rtc;
     };
     let SourceRead::Is(source) = numbers::source_of(u8_at(s, TIME_SOURCE)) else {
-        text::words(b"no time source");
+        text::words(rt, b"no time source");
         return rtc;
     };
     if persists {
-        return persist(rtc, s, granularity, source);
+        return persist(rt, rtc, s, granularity, source);
     }
-    set(rtc, s, granularity, source)
+    set(rt, rtc, s, granularity, source)
 }
 
 // The source in a step that installs or loads one: fabric index, node, endpoint.
@@ -138,16 +150,16 @@ fn source_in(s: &[u8]) -> MaybeSource {
 }
 
 // A trusted time source is installed, or cleared.
-fn trust(rtc: Rtc, source: MaybeSource) -> Rtc {
+fn trust(rt: &impl Print, rtc: Rtc, source: MaybeSource) -> Rtc {
     let after = held::set_trusted_time_source_persist(rtc, source);
     let stored = after.stored;
     match stored {
-        SourceStored::Same => text::words(b"same source"),
+        SourceStored::Same => text::words(rt, b"same source"),
         SourceStored::Stored(new) => {
-            text::words(b"stored source");
-            told_source(new);
+            text::words(rt, b"stored source");
+            told_source(rt, new);
         }
-        SourceStored::Removed => text::words(b"removed source"),
+        SourceStored::Removed => text::words(rt, b"removed source"),
     }
     after.rtc
 }
@@ -169,84 +181,92 @@ fn stored_moment(s: &[u8]) -> MaybeU64 {
 }
 
 // A load: maybe a source, maybe a moment, and the build moment.
-fn load(rtc: Rtc, s: &[u8]) -> Rtc {
+fn load(rt: &impl Print, rtc: Rtc, s: &[u8]) -> Rtc {
     let after = held::load_persist(rtc, u64_at(s, BUILD), stored_moment(s), stored_source(s));
     let answer = after.answer;
     match answer {
-        LoadAnswer::Done => text::words(b"loaded"),
-        LoadAnswer::Refused(cause) => numbered(b"refused ", numbers::refusal_number(cause) as u64),
+        LoadAnswer::Done => text::words(rt, b"loaded"),
+        LoadAnswer::Refused(cause) => numbered(
+            rt,
+            b"refused ",
+            numbers::refusal_number(cause) as u64,
+        ),
     }
     after.rtc
 }
 
 // A reset: the build moment.
-fn reset(rtc: Rtc, s: &[u8]) -> Rtc {
-    text::words(b"reset");
+fn reset(rt: &impl Print, rtc: Rtc, s: &[u8]) -> Rtc {
+    text::words(rt, b"reset");
     held::reset_persist(rtc, u64_at(s, ARGUMENT))
 }
 
 // Writes a reading of the UTC time.
-fn told_utc(utc: UtcTime) {
+fn told_utc(rt: &impl Print, utc: UtcTime) {
     match utc {
-        UtcTime::Reliable(utc_us) => numbered(b"reliable ", utc_us),
-        UtcTime::LastKnown(utc_us) => numbered(b"last known ", utc_us),
+        UtcTime::Reliable(utc_us) => numbered(rt, b"reliable ", utc_us),
+        UtcTime::LastKnown(utc_us) => numbered(rt, b"last known ", utc_us),
     }
 }
 
 // Writes the trusted time source, or that there is none.
-fn told_trusted(trusted: MaybeSource) {
+fn told_trusted(rt: &impl Print, trusted: MaybeSource) {
     match trusted {
-        MaybeSource::Nothing => text::words(b", none trusted"),
+        MaybeSource::Nothing => text::words(rt, b", none trusted"),
         MaybeSource::Is(source) => {
-            text::words(b", trusted");
-            told_source(source);
+            text::words(rt, b", trusted");
+            told_source(rt, source);
         }
     }
 }
 
 // Writes everything that a clock says of itself at a tick.
-fn reading(rtc: Rtc, tick: u64) {
-    told_utc(rtc.utc_time(tick));
+fn reading(rt: &impl Print, rtc: Rtc, tick: u64) {
+    told_utc(rt, rtc.utc_time(tick));
     let granularity = rtc.utc_time_granularity();
     numbered(
+        rt,
         b", granularity ",
         numbers::granularity_number(granularity) as u64,
     );
     let source = rtc.utc_time_source();
-    numbered(b", time source ", numbers::source_number(source) as u64);
-    told_trusted(rtc.trusted_time_source());
+    numbered(rt, b", time source ", numbers::source_number(source) as u64);
+    told_trusted(rt, rtc.trusted_time_source());
 }
 
 // One step, by its letter; answers the clock after it.
-fn step(rtc: Rtc, s: &[u8]) -> Rtc {
+fn step(rt: &impl Print, rtc: Rtc, s: &[u8]) -> Rtc {
     match u8_at(s, 0) {
-        b'S' => setting(rtc, s, false),
-        b'P' => setting(rtc, s, true),
-        b'T' => trust(rtc, source_in(s)),
-        b'C' => trust(rtc, MaybeSource::Nothing),
-        b'L' => load(rtc, s),
-        b'R' => reset(rtc, s),
+        b'S' => setting(rt, rtc, s, false),
+        b'P' => setting(rt, rtc, s, true),
+        b'T' => trust(rt, rtc, source_in(s)),
+        b'C' => trust(rt, rtc, MaybeSource::Nothing),
+        b'L' => load(rt, rtc, s),
+        b'R' => reset(rt, rtc, s),
         _ => {
-            reading(rtc, u64_at(s, ARGUMENT));
+            reading(rt, rtc, u64_at(s, ARGUMENT));
             rtc
         }
     }
 }
 
 // Runs the steps of a script, and writes what each answers; it ends where no step can be read.
-pub(crate) fn script(s: &[u8]) {
+pub(crate) fn script(rt: &impl Print, s: &[u8]) {
     let mut rtc = Rtc::new(0);
     let mut at: usize = 0;
-    while at < s.len() {
+    for _ in 0..s.len() {
+        if s.len() <= at {
+            return;
+        }
         let used = size_within(s[at], s.len() - at);
         if used == 0 {
-            text::words(b"no step");
+            text::words(rt, b"no step");
             return;
         }
         let end = at + used;
-        rtc = step(rtc, &s[at..end]);
+        rtc = step(rt, rtc, &s[at..end]);
         if end < s.len() {
-            text::words(b"; ");
+            text::words(rt, b"; ");
         }
         at = end;
     }

@@ -32,34 +32,37 @@ const UTC_SIZE: usize = 18;
 const HEAD_SIZE: usize = 5;
 
 // Writes the number of what a call returned, which is its lowest byte: 0 where the call was taken.
-pub(crate) fn told(returned: u64) {
-    text::words(b" ");
-    text::decimal(returned % 256);
+pub(crate) fn told(rt: &impl Print, returned: u64) {
+    text::words(rt, b" ");
+    text::decimal(rt, returned % 256);
 }
 
 // SetUTCTime: moment, granularity, tick.
-fn utc_time(image: &mut [u8], s: &[u8]) -> usize {
+fn utc_time(rt: &impl Print, image: &mut [u8], s: &[u8]) -> usize {
     if s.len() < UTC_SIZE {
         return 0;
     }
     let moment = u64_at(s, ARGUMENT);
     let tick = u64_at(s, TICK);
-    told(timesync_set_utc_time(image, moment, s[GRANULARITY], 0, 0, tick));
+    told(
+        rt,
+        timesync_set_utc_time(image, moment, s[GRANULARITY], 0, 0, tick),
+    );
     UTC_SIZE
 }
 
 // LocalTime: tick.
-fn local(image: &[u8], s: &[u8]) -> usize {
+fn local(rt: &impl Print, image: &[u8], s: &[u8]) -> usize {
     let mut there: u64 = 0;
     let mut utc: u64 = 0;
     let r = timesync_local_time(image, u64_at(s, ARGUMENT), &mut there, &mut utc);
     if r != 0 {
-        told(r);
+        told(rt, r);
     } else if there == 0 {
-        text::words(b" null");
+        text::words(rt, b" null");
     } else {
-        text::words(b" ");
-        text::decimal(utc);
+        text::words(rt, b" ");
+        text::decimal(rt, utc);
     }
     NUMBER_SIZE
 }
@@ -78,7 +81,7 @@ fn asked(image: &mut [u8], letter: u8, given: &[u8]) -> u64 {
 }
 
 // A list command or a load: the length of its section or record, and its bytes.
-fn list(image: &mut [u8], s: &[u8], letter: u8) -> usize {
+fn list(rt: &impl Print, image: &mut [u8], s: &[u8], letter: u8) -> usize {
     if s.len() < HEAD_SIZE {
         return 0;
     }
@@ -86,13 +89,13 @@ fn list(image: &mut [u8], s: &[u8], letter: u8) -> usize {
     if s.len() - HEAD_SIZE < n {
         return 0;
     }
-    told(asked(image, letter, &s[HEAD_SIZE..HEAD_SIZE + n]));
+    told(rt, asked(image, letter, &s[HEAD_SIZE..HEAD_SIZE + n]));
     HEAD_SIZE + n
 }
 
 // SetTrustedTimeSource with a node 1 and its endpoint 2: the fabric index.
-fn trusted(image: &mut [u8], fabric: u8) -> usize {
-    told(timesync_set_trusted_time_source(image, fabric, 1, 1, 2));
+fn trusted(rt: &impl Print, image: &mut [u8], fabric: u8) -> usize {
+    told(rt, timesync_set_trusted_time_source(image, fabric, 1, 1, 2));
     FABRIC_SIZE
 }
 
@@ -103,42 +106,45 @@ fn without_store(image: &mut [u8]) -> usize {
 }
 
 // How many entries are listed.
-fn counts(image: &[u8]) -> usize {
-    listing::counts(image);
+fn counts(rt: &impl Print, image: &[u8]) -> usize {
+    listing::counts(rt, image);
     LETTER_SIZE
 }
 
 // The listed zone at an index.
-fn zone(image: &[u8], s: &[u8]) -> usize {
-    listing::zone(image, u64_at(s, ARGUMENT) as usize);
+fn zone(rt: &impl Print, image: &[u8], s: &[u8]) -> usize {
+    listing::zone(rt, image, u64_at(s, ARGUMENT) as usize);
     NUMBER_SIZE
 }
 
 // The listed window at an index.
-fn window(image: &[u8], s: &[u8]) -> usize {
-    listing::window(image, u64_at(s, ARGUMENT) as usize);
+fn window(rt: &impl Print, image: &[u8], s: &[u8]) -> usize {
+    listing::window(rt, image, u64_at(s, ARGUMENT) as usize);
     NUMBER_SIZE
 }
 
 // The step at the front, by its letter; answers how many bytes it took, and 0 where it cannot be read.
-fn step(image: &mut [u8], s: &[u8]) -> usize {
+fn step(rt: &impl Print, image: &mut [u8], s: &[u8]) -> usize {
     match u8_at(s, 0) {
-        b'U' => utc_time(image, s),
-        b'L' => local(image, s),
-        b'T' => trusted(image, u8_at(s, ARGUMENT)),
+        b'U' => utc_time(rt, image, s),
+        b'L' => local(rt, image, s),
+        b'T' => trusted(rt, image, u8_at(s, ARGUMENT)),
         b'N' => without_store(image),
-        b'C' => counts(image),
-        b'A' => zone(image, s),
-        b'B' => window(image, s),
-        letter => list(image, s, letter),
+        b'C' => counts(rt, image),
+        b'A' => zone(rt, image, s),
+        b'B' => window(rt, image, s),
+        letter => list(rt, image, s, letter),
     }
 }
 
 // Runs the steps of a script on an image, and writes what each answers; it ends where no step can be read.
-fn steps(image: &mut [u8], s: &[u8]) {
+fn steps(rt: &impl Print, image: &mut [u8], s: &[u8]) {
     let mut at: usize = 0;
-    while at < s.len() {
-        let used = step(image, &s[at..]);
+    for _ in 0..s.len() {
+        if s.len() <= at {
+            return;
+        }
+        let used = step(rt, image, &s[at..]);
         if used == 0 {
             return;
         }
@@ -150,8 +156,8 @@ fn steps(image: &mut [u8], s: &[u8]) {
 }
 
 // Runs a script on a new device; its build moment and the client's period are 0.
-pub(crate) fn script(s: &[u8]) {
+pub(crate) fn script(rt: &impl Print, s: &[u8]) {
     let mut image = [0u8; IMAGE_SIZE];
     timesync_new(&mut image, 1, 2, 2, 0, 0);
-    steps(&mut image, s);
+    steps(rt, &mut image, s);
 }

@@ -9,12 +9,17 @@ mod listing;
 mod store;
 mod text;
 
-use libc::STDIN_FILENO;
+use std::io::Read;
 
 // Room for the longest name and the longest record.
 pub(crate) const NAME_MAX: usize = 64;
 
 pub(crate) const RECORD_MAX: usize = 962;
+
+// Room for the bytes of the longest row, and for the rows that are read at a time.
+const GIVEN_MAX: usize = 4096;
+
+const TABLE_MAX: usize = 65_536;
 
 // The word of a row with its bytes: of a history, which has three numbers before them, and of any other.
 const HISTORY_WORD: usize = 4;
@@ -22,14 +27,14 @@ const HISTORY_WORD: usize = 4;
 const BYTES_WORD: usize = 1;
 
 // Answers what a letter asks about some bytes.
-fn ask(letter: u8, given: &[u8]) {
+fn ask(rt: &impl Print, letter: u8, given: &[u8]) {
     match letter {
-        b'u' => bytes::utf8(given),
-        b'z' => bytes::zones(given),
-        b'w' => bytes::windows(given),
-        b'x' => device::script(given),
-        b'c' => clock::script(given),
-        _ => bytes::record(given),
+        b'u' => bytes::utf8(rt, given),
+        b'z' => bytes::zones(rt, given),
+        b'w' => bytes::windows(rt, given),
+        b'x' => device::script(rt, given),
+        b'c' => clock::script(rt, given),
+        _ => bytes::record(rt, given),
     }
 }
 
@@ -43,71 +48,76 @@ fn bytes_word(letter: u8) -> usize {
 }
 
 // Answers one row: a letter for what is asked, then bytes in hexadecimal digits; a history has three decimal numbers before them.
-fn answer(row: &[u8]) {
-    text::words(row);
+fn answer(rt: &impl Print, row: &[u8]) {
+    text::words(rt, row);
     if row.len() < 2 {
         return;
     }
     let letter = row[0];
-    text::words(b": ");
+    text::words(rt, b": ");
     let at = text::word_start(row, bytes_word(letter));
-    let mut given = io::buffer();
+    let mut given = [0u8; GIVEN_MAX];
     let n = text::hex(&row[at..], &mut given);
     if letter == b'h' {
-        store::replayed(row, &given[..n]);
+        store::replayed(rt, row, &given[..n]);
     } else {
-        ask(letter, &given[..n]);
+        ask(rt, letter, &given[..n]);
     }
 }
 
 // Answers every row; an empty one is written as it is.
-fn rows(table: &[u8]) {
+fn rows(rt: &impl Print, table: &[u8]) {
     let mut at: usize = 0;
-    while at < table.len() {
+    for _ in 0..table.len() {
+        if table.len() <= at {
+            return;
+        }
         let end = text::line_end(table, at);
-        answer(&table[at..end]);
-        text::words(b"\n");
+        answer(rt, &table[at..end]);
+        text::words(rt, b"\n");
         at = end + 1;
     }
 }
 
 // Answers the rows in the first n bytes of a table.
-fn front_rows(table: &[u8], n: usize) {
+fn front_rows(rt: &impl Print, table: &[u8], n: usize) {
     if n <= table.len() {
-        rows(&table[..n]);
+        rows(rt, &table[..n]);
     }
 }
 
 // Answers the whole rows of a full table, moves the rest to the front and answers how many bytes that is.
-fn full_turn(table: &mut [u8]) -> usize {
+fn full_turn(rt: &impl Print, table: &mut [u8]) -> usize {
     let end = text::whole_lines(table);
     if end == 0 {
-        text::words(b"a row is too long\n");
+        text::words(rt, b"a row is too long\n");
     }
-    front_rows(table, end);
+    front_rows(rt, table, end);
     text::to_front(table, end);
     table.len() - end
 }
 
 // Reads on behind the bytes that were kept, answers what is there and answers how many bytes are kept: all of the table at the end.
-fn turn(table: &mut [u8], kept: usize) -> usize {
+fn turn<R: Read>(rt: &impl Print, input: &mut R, table: &mut [u8], kept: usize) -> usize {
     if kept < table.len() {
-        let n = kept + io::read_full(STDIN_FILENO, &mut table[kept..]);
+        let n = kept + streams::read_full(input, &mut table[kept..]);
         if n == table.len() {
-            return full_turn(table);
+            return full_turn(rt, table);
         }
-        front_rows(table, n);
+        front_rows(rt, table, n);
     }
     table.len()
 }
 
-// A proved loop ends, and nothing says that the input does: the turns are counted down from a number that no run uses up.
-fn main() {
-    let mut table = io::large_buffer();
+// A proved loop ends, and nothing says that the input does: the turns are counted up to a number that no run reaches.
+fn main(rt: HostRuntime) {
+    let mut input = rt.reader();
+    let mut table = [0u8; TABLE_MAX];
     let mut kept: usize = 0;
-    let mut turns = u64::MAX;
-    while turns > 0 && kept < table.len() {
-        kept = turn(&mut table, kept);
-        turns -= 1;
+    for _ in 0..u64::MAX {
+        if table.len() <= kept {
+            break;
+        }
+        kept = turn(&rt, &mut input, &mut table, kept);
     }
 }

@@ -11,17 +11,15 @@ const MOMENT_SIZE: usize = 8;
 const MOMENTS_MAX: usize = MOST_MOMENTS * MOMENT_SIZE;
 
 // Writes the number of steps and the moments of a walk.
-fn walked(moments: &[u8], steps: u64) {
-    text::decimal(steps);
-    text::words(b" steps:");
-    let mut i: usize = 0;
-    while i < MOST_MOMENTS {
+fn walked(rt: &impl Print, moments: &[u8], steps: u64) {
+    text::decimal(rt, steps);
+    text::words(rt, b" steps:");
+    for i in 0..MOST_MOMENTS {
         if steps < i as u64 {
             return;
         }
-        text::words(b" ");
-        text::decimal(u64_at(moments, MOMENT_SIZE * i));
-        i += 1;
+        text::words(rt, b" ");
+        text::decimal(rt, u64_at(moments, MOMENT_SIZE * i));
     }
 }
 
@@ -64,14 +62,14 @@ fn run(row: &[u8], history: &[u8], moments: &mut [u8], steps: &mut u64) -> u64 {
 }
 
 // Runs a history and writes the walk: zone limit, window limit, starting moment, and the calls in hexadecimal digits.
-pub(crate) fn replayed(row: &[u8], history: &[u8]) {
+pub(crate) fn replayed(rt: &impl Print, row: &[u8], history: &[u8]) {
     let mut moments = [0u8; MOMENTS_MAX];
     let mut steps: u64 = 0;
     let answer = run(row, history, &mut moments, &mut steps);
     if answer != 0 {
-        text::words(b"refused ");
-        text::decimal(answer);
+        text::words(rt, b"refused ");
+        text::decimal(rt, answer);
         return;
     }
-    walked(&moments, steps);
+    walked(rt, &moments, steps);
 }

@@ -1,17 +1,13 @@
 // Text in and out: lines, hexadecimal digits, signed numbers.
 ghost use Rattle.std.specs.Prelude.{◌≤◌, length};
-ghost use Rattle.io.specs.Counts.{IsPrefixLen};
-
-use libc::STDOUT_FILENO;
-
 // Writes some text.
-pub(crate) fn words(s: &[u8]) {
-    io::write_all(STDOUT_FILENO, s);
+pub(crate) fn words(rt: &impl Print, s: &[u8]) {
+    streams::write_whole(rt, s);
 }
 
 // Writes a number.
-pub(crate) fn decimal(n: u64) {
-    io::print_decimal(STDOUT_FILENO, n);
+pub(crate) fn decimal(rt: &impl Print, n: u64) {
+    streams::write_decimal(rt, n);
 }
 
 // Where the line that starts at `at` ends.
@@ -19,26 +15,22 @@ pub(crate) fn line_end(s: &[u8], at: usize) -> usize
     requires { at ≤ length s.now }
     ensures { (at ≤ result) × (result ≤ length s.now) }
 {
-    let mut i = at;
-    while i < s.len() {
+    for i in at..s.len() {
         if s[i] == b'\n' {
             return i;
         }
-        i += 1;
     }
-    i
+    s.len()
 }
 
 // How many bytes at the front are whole lines, with their line ends.
 pub(crate) fn whole_lines(s: &[u8]) -> usize
     ensures { result ≤ length s.now }
 {
-    let mut i = s.len();
-    while 0 < i {
-        if s[i - 1] == b'\n' {
-            return i;
+    for i in (0..s.len()).rev() {
+        if s[i] == b'\n' {
+            return i + 1;
         }
-        i -= 1;
     }
     0
 }
@@ -48,11 +40,8 @@ pub(crate) fn to_front(s: &mut [u8], at: usize) {
     if s.len() < at {
         return;
     }
-    let n = s.len() - at;
-    let mut i: usize = 0;
-    while i < n {
+    for i in 0..s.len() - at {
         s[i] = s[at + i];
-        i += 1;
     }
 }
 
@@ -77,11 +66,10 @@ fn digit(b: u8) -> u8
 
 // The bytes that pairs of digits stand for, and how many were stored.
 pub(crate) fn hex(s: &[u8], out: &mut [u8]) -> usize
-    ensures { IsPrefixLen result out.new }
+    ensures { result ≤ length out.new }
 {
     let mut i: usize = 0;
-    let mut n: usize = 0;
-    while n < out.len() {
+    for n in 0..out.len() {
         if s.len() - i < 2 {
             return n;
         }
@@ -89,9 +77,8 @@ pub(crate) fn hex(s: &[u8], out: &mut [u8]) -> usize
         let low = digit(s[i + 1]);
         out[n] = high * 16 + low;
         i += 2;
-        n += 1;
     }
-    n
+    out.len()
 }
 
 // The word that a byte belongs to, after the word before it.
@@ -119,40 +106,36 @@ pub(crate) fn word_start(s: &[u8], k: usize) -> usize
     ensures { result ≤ length s.now }
 {
     let mut word: usize = 0;
-    let mut i: usize = 0;
-    while i < s.len() {
+    for i in 0..s.len() {
         if word == k {
             return i;
         }
         word = word_after(word, s[i]);
-        i += 1;
     }
-    i
+    s.len()
 }
 
 // Word k of a row as a decimal number; the first word is 0.
 pub(crate) fn number(s: &[u8], k: usize) -> u64 {
     let mut v: u64 = 0;
-    let mut i = word_start(s, k);
-    while i < s.len() {
+    for i in word_start(s, k)..s.len() {
         if s[i] == b' ' {
             return v;
         }
         v = with_digit(v, s[i]);
-        i += 1;
     }
     v
 }
 
 // Writes a number with its sign, by way of its four bytes.
-pub(crate) fn signed(z: i32) {
+pub(crate) fn signed(rt: &impl Print, z: i32) {
     let mut b = [0u8; 4];
     word::put_i32(&mut b, 0, z);
     let n = word::or_zero::u32_at(&b, 0);
     if n < 0x8000_0000 {
-        decimal(n as u64);
+        decimal(rt, n as u64);
         return;
     }
-    words(b"-");
-    decimal((0xffff_ffff - n) as u64 + 1);
+    words(rt, b"-");
+    decimal(rt, (0xffff_ffff - n) as u64 + 1);
 }
