@@ -70,7 +70,7 @@ pub(crate) fn hex(s: &[u8], out: &mut [u8]) -> usize
 {
     let mut i: usize = 0;
     for n in 0..out.len() {
-        if s.len() - i < 2 {
+        if s.len().saturating_sub(i) < 2 {
             return n;
         }
         let high = digit(s[i]);
