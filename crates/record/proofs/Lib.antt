@@ -3,8 +3,6 @@ pub mod Heads
 pub mod Suffix
 pub mod Sections
 pub mod Indexed
-pub mod Reader
-pub mod Requests
 pub mod Meaning
 pub mod Names
 pub mod AtIndex

@@ -1,0 +1,16 @@
+-- `record::read::dst_offsets_at` meets its contract: `left` entries are still to be read, from `next` on.
+use mathlib.Core.Path.{◌≡◌, sym, ◌∙◌}
+use Prim.Native.Nat.{ℕ, suc, ◌-◌, ◌≤◌, ◌<◌}
+use native.Mathlib.Omega.{arith}
+use borrow.Author.Rules.{rules}
+use lib.ListN.{length, get_or}
+use Rattle.model.specs.Bytes.{read_window}
+use Rattle.record.specs.Fronts.{windows_at}
+use Rattle.record.proofs.Sections.{Reading, no_count, begins, stops, goes_on_lem, ends, window_read_lem, window_unread}
+use Rattle.record.proofs.read.dst_offsets_at.Given as goal
+
+abbrev pub invariant-loop-left : goal.invariant-loop-left
+invariant-loop-left l = Reading read_window l.s l.at (get_or l.s l.at 0) l.left l.next
+
+abbrev pub decreases-loop-left : goal.decreases-loop-left
+decreases-loop-left l = l.left

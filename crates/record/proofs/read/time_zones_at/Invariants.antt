@@ -1,0 +1,16 @@
+-- `record::read::time_zones_at` meets its contract: `left` entries are still to be read, from `next` on.
+use mathlib.Core.Path.{◌≡◌, sym, ◌∙◌}
+use Prim.Native.Nat.{ℕ, suc, ◌-◌, ◌≤◌, ◌<◌}
+use native.Mathlib.Omega.{arith}
+use borrow.Author.Rules.{rules}
+use lib.ListN.{length, get_or}
+use Rattle.model.specs.Bytes.{read_zone}
+use Rattle.record.specs.Fronts.{zones_at}
+use Rattle.record.proofs.Sections.{Reading, no_count, begins, stops, goes_on_lem, ends, zone_read_lem, zone_unread}
+use Rattle.record.proofs.read.time_zones_at.Given as goal
+
+abbrev pub invariant-loop-left : goal.invariant-loop-left
+invariant-loop-left l = Reading read_zone l.s l.at (get_or l.s l.at 0) l.left l.next
+
+abbrev pub decreases-loop-left : goal.decreases-loop-left
+decreases-loop-left l = l.left

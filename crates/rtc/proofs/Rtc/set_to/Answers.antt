@@ -1,0 +1,6 @@
+-- `rtc::Rtc::set_to` meets its contract: the granularity is lowered by `stepped`.
+use borrow.Author.Rules.{rules}
+use Rattle.rtc.proofs.Rtc.set_to.Goals as goal
+
+pub returns : goal.returns
+returns c = simp c.stepped.ensures

@@ -1,0 +1,12 @@
+-- `rtc::Rtc::utc_time_source` meets its contract: each arm is given which constructor the anchor is.
+use borrow.Author.Rules.{rules}
+use Rattle.model.specs.Clock.{source_read}
+use Rattle.rtc.proofs.Rtc.utc_time_source.Goals as goal
+
+pub returns-in-Nothing : goal.returns-in-Nothing
+unfolding source_read
+returns-in-Nothing c = simp c.in-Nothing.is
+
+pub returns-in-Is : goal.returns-in-Is
+unfolding source_read
+returns-in-Is c = simp c.in-Is.is

@@ -1,0 +1,8 @@
+-- `word::spelled::u16_of` meets its contract.
+use borrow.Author.Rules.{rules}
+use Rattle.model.specs.Bytes.{number}
+use Rattle.word.proofs.spelled.u16_of.Goals as goal
+
+pub returns : goal.returns
+unfolding number
+returns c = search rules
