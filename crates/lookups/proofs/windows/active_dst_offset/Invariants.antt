@@ -1,0 +1,22 @@
+-- `lookups::windows::active_dst_offset` meets its contract.
+use mathlib.Core.List.{List}
+use mathlib.Core.Option.{Option}
+use mathlib.Core.Path.{◌≡◌, sym, ◌∙◌, ap}
+use Prim.Native.Nat.{◌-◌, ◌≤◌}
+use native.Mathlib.Omega.{arith}
+use borrow.Author.Rules.{rules}
+use Rattle.model.specs.Basics.{keep, first}
+use Rattle.model.specs.Lists.{Window}
+use Rattle.model.specs.Lookups.{is_active, active_window, offset_of, active_offset}
+use Rattle.model.specs.Maybe.{maybe_i32}
+use Rattle.table.specs.Layout.{window_count, entries_from, windows_in, lists_in}
+use Rattle.table.proofs.Counts.{WindowStands, window_stands}
+use Rattle.lookups.proofs.Entries.{whole, first_hit, first_miss, first_over}
+use Rattle.lookups.proofs.Views.{window_with_index}
+use Rattle.lookups.proofs.windows.active_dst_offset.Given as goal
+
+abbrev pub invariant-loop-i : goal.invariant-loop-i
+invariant-loop-i l = (l.n ≡ window_count l.table) × (l.i ≤ l.n) × (active_window (lists_in l.table) l.utc ≡ first (keep (is_active l.utc) (entries_from (window_with_index l.table) l.i (l.n - l.i))))
+
+abbrev pub decreases-loop-i : goal.decreases-loop-i
+decreases-loop-i l = l.n - l.i

@@ -1,0 +1,43 @@
+-- `write::zones_length` meets its contract.
+use Rattle.std.proofs.Common.{◌≡◌, ◌+◌, ◌-◌, ◌*◌, ◌≤◌, length, get_or, take, sym, ap, ◌∙◌, arith, length-append, take_all, rules}
+use Rattle.model.specs.Bytes.{zone_bytes, all_bytes}
+use Rattle.word.proofs.Writes.{all_more}
+use Rattle.table.specs.Layout.{zone_count_place, zone_place, zone_count, zones_in}
+use Rattle.table.proofs.Held.{blank_zone}
+use Rattle.table.proofs.Counts.{count_most, zone_stands}
+use Rattle.table.proofs.Bounds.{zone_most}
+use Rattle.table.proofs.Listed.{zone_listed_lem, zone_entry_lem, zone_section_long}
+use Rattle.table.proofs.write.zones_length.Goals as goal
+
+pub loop-i-init : goal.loop-i-init
+unfolding all_bytes
+loop-i-init c = (c.zone_count-n.ensures, omega arith, omega arith, omega arith)
+
+pub zone_length-total-requires : goal.zone_length-total-requires
+zone_length-total-requires c = zone_stands c.args.table.now c.loop-i.i (omega (arith, c.loop-i.invariant.0))
+
+pub overflow_add-total : goal.overflow_add-total
+overflow_add-total c =
+    let s = c.args.table.now in
+    let v = c.loop-i.invariant in
+    omega (arith, v.0, v.3, count_most zone_count_place 8 s, zone_most s (zone_place c.loop-i.i), c.zone_length-total.ensures)
+
+pub loop-i-preserved : goal.loop-i-preserved
+loop-i-preserved c =
+    let s = c.args.table.now in
+    let v = c.loop-i.invariant in
+    let i = c.loop-i.i in
+    let e = zone_entry_lem s i (omega (arith, v.0)) in
+    let m = all_more zone_bytes (zones_in s) i blank_zone (omega (arith, v.0, zone_listed_lem s)) in (
+      v.0,
+      omega arith,
+      omega (arith, v.2, ap length m, length-append (all_bytes zone_bytes (take i (zones_in s))) (zone_bytes (get_or (zones_in s) i blank_zone)), ap (λ w. length (zone_bytes w)) e, c.zone_length-total.ensures),
+      omega (arith, v.3, zone_most s (zone_place i), c.zone_length-total.ensures),
+    )
+
+pub returns : goal.returns
+returns c =
+    let s = c.args.table.now in
+    let v = c.loop-i.invariant in
+    let t = take_all c.loop-i.i (zones_in s) (omega (arith, v.0, zone_listed_lem s)) in
+    v.2 ∙ ap (λ ws. 1 + length (all_bytes zone_bytes ws)) t ∙ sym (zone_section_long s)
