@@ -31,7 +31,7 @@ fn link(dir: &Path, name: &str) {
     println!("cargo::rustc-link-lib=static={name}");
     if !archive.is_file() {
         println!(
-            "cargo::error=there is no {}: build it with `rt staticlib {name}`, or name its directory in TIMESYNC_LIB_DIR",
+            "cargo::error=there is no {}: build it with `tools/archives.sh`, or name its directory in TIMESYNC_LIB_DIR",
             archive.display()
         );
     }

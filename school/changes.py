@@ -90,8 +90,8 @@ and under it a new zone, and the state, which is one of
 A coming moment is told as clocks show it when it comes, before they change.
 
 The walk from change to change is that of the proved program schedule. Each run
-first has it built by `rt check schedule`, which takes minutes the first time
-and hardly any time after that.
+first has it built by `rt run` in crates/schedule, which takes minutes the
+first time and hardly any time after that.
 
 exit status:
   0  shown

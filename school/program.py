@@ -12,8 +12,9 @@ from lists import Stop, ended, window_at, zone_at
 
 ROOT = pathlib.Path(__file__).resolve().parent.parent
 NAME = "schedule"
-PROGRAM = ROOT / "target" / "bin" / NAME
-CHECK = ("rt", "check", NAME)
+CRATE = ROOT / "crates" / NAME
+PROGRAM = CRATE / "out" / NAME
+BUILD = ("rt", "run")  # in the crate's folder: proves it and what is below it, builds it, and runs it once on nothing
 LONGEST_RUN = 60  # seconds; the program takes far less than one
 PATIENCE = 2  # seconds without a line from rt, after which it is proving; of a proved crate it tells in far less
 CHUNK = 65_536  # bytes that are read in one go
@@ -32,20 +33,20 @@ class Row(NamedTuple):
 
 
 def proof_order(text, wanted):
-    """The crates of a crates.txt that are proved for one of them, in rt's order: by how many stand below each other."""
+    """The crates of a crates.txt that are proved for one of them, in rt's order: each after those that it names."""
     lines = [line.partition("#")[0].partition(":") for line in text.split("\n")]
-    needs = {name.strip(): others.split() for name, colon, others in lines if colon}
-    levels = {}
+    needs = {head.split()[0]: others.split() for head, _, others in lines if head.split()}
+    seen, order = set(), []
 
-    def level(crate):
-        if crate not in levels:
-            levels[crate] = 0  # where crates need each other in a circle, which rt refuses, it ends here
-            levels[crate] = max((level(other) + 1 for other in needs[crate] if other in needs), default=0)
-        return levels[crate]
+    def put(crate):
+        if crate in needs and crate not in seen:
+            seen.add(crate)  # where crates need each other in a circle, which rt refuses, it ends here
+            for other in needs[crate]:
+                put(other)
+            order.append(crate)
 
-    if wanted in needs:
-        level(wanted)
-    return sorted(levels, key=levels.get)
+    put(wanted)
+    return order
 
 
 def crates():
@@ -55,14 +56,16 @@ def crates():
         return []  # rt itself says what is wrong
 
 
-TOLD = re.compile(r"^rt: (\w+) (?:NOT PROVED|proved)\b", re.MULTILINE)
+TOLD = re.compile(r"^rt: chose --jobs \d+ for (\w+)$", re.MULTILINE)  # rt's line as it begins to prove a crate
+PROVED = re.compile(r"^rt: running ", re.MULTILINE)
 
 
 def progress(order, text):
     """The crate that rt is at after it printed a text, or None."""
-    told = TOLD.findall(text)
-    left = [crate for crate in order if crate not in told]
-    return f"changes: proving {left[0]} ({len(order) - len(left) + 1} of {len(order)}) ..." if left else None
+    if not order or PROVED.search(text):
+        return None
+    at = [crate for crate in TOLD.findall(text) if crate in order][-1:] or order[:1]
+    return f"changes: proving {at[0]} ({order.index(at[0]) + 1} of {len(order)}) ..."
 
 
 class Line:
@@ -110,10 +113,10 @@ def cannot_be_run(command, error):
 def build():
     """Has the program proved and built by rt, and says how far it is while it proves."""
     try:
-        rt = subprocess.Popen(CHECK, cwd=ROOT, stdin=subprocess.DEVNULL, stdout=subprocess.PIPE,
+        rt = subprocess.Popen(BUILD, cwd=CRATE, stdin=subprocess.DEVNULL, stdout=subprocess.PIPE,
                               stderr=subprocess.STDOUT)
     except OSError as error:
-        raise cannot_be_run(CHECK[0], error) from None
+        raise cannot_be_run(BUILD[0], error) from None
     line = Line()
     with rt:
         try:
@@ -124,13 +127,13 @@ def build():
         finally:
             line.clear()
     if rt.returncode != 0:
-        raise Stop(3, f"{text.rstrip()}\nchanges: {' '.join(CHECK)} failed with status {rt.returncode}")
+        raise Stop(3, f"{text.rstrip()}\nchanges: {' '.join(BUILD)} in crates/{NAME} failed with status {rt.returncode}")
 
 
 def ask_program(given):
     """What the program writes on the bytes that it is given, once it is proved and built."""
-    if shutil.which(CHECK[0]) is None:
-        raise Stop(3, f"changes: {CHECK[0]} is not found on PATH; it is needed to prove and build the program")
+    if shutil.which(BUILD[0]) is None:
+        raise Stop(3, f"changes: {BUILD[0]} is not found on PATH; it is needed to prove and build the program")
     build()
     try:
         answer = subprocess.run([PROGRAM], cwd=ROOT, check=False, input=given, stdout=subprocess.PIPE,

@@ -200,7 +200,7 @@ class Command(unittest.TestCase):
         status, out, _ = command("--help")
         self.assertEqual(status, 0)
         for part in ("zone   OFFSET  from MOMENT", "window OFFSET  from MOMENT  to MOMENT", "to open", "exit status:",
-                     "little endian", "between windows", "run out", "rt check schedule", "before → after",
+                     "little endian", "between windows", "run out", "`rt run` in crates/schedule", "before → after",
                      "--limits ZONES/WINDOWS", "TimeZoneListMaxSize", "\n  window +00:00 from beginning to open\n"):
             self.assertIn(part, out)
         self.assertLessEqual(max(map(len, out.split("\n"))), 80)
@@ -220,7 +220,7 @@ class Command(unittest.TestCase):
             self.assertEqual(sentence in out, columns == "200")
 
 
-@unittest.skipUnless(program.PROGRAM.exists(), "the program schedule is not built: rt check schedule")
+@unittest.skipUnless(program.PROGRAM.exists(), "the program schedule is not built: rt run, in crates/schedule")
 class Program(unittest.TestCase):
     """The program itself, held to the stand-in."""
 

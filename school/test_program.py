@@ -59,11 +59,11 @@ class Answer(unittest.TestCase):
 class Order(unittest.TestCase):
     def test_of_this_repository(self):
         order = program.proof_order(CRATES.read_text("utf-8"), "schedule")
-        self.assertEqual(order, ["model", "word", "record", "text", "rules", "table", "lookups", "schedule_text",
-                                 "schedule"])
+        self.assertEqual(order, ["model", "word", "record", "rules", "table", "lookups", "text", "schedule_text",
+                                 "streams", "schedule"])
 
     def test_by_hand(self):
-        text = "# crates\n\nlast: a c kit  # and no more\nc: b\nb:\na: b\nother: last\n"
+        text = "# crates\n\nlast: a c kit  # and no more\nc: b\nb:\na: b\nother staticlib: last\n"
         self.assertEqual(program.proof_order(text, "last"), ["b", "a", "c", "last"])
         self.assertEqual(program.proof_order(text, "b"), ["b"])
 
@@ -83,11 +83,11 @@ class Progress(unittest.TestCase):
         order = ["a", "b", "c"]
         for printed, expected in (
             ("", "changes: proving a (1 of 3) ..."),
-            ("rt: a prov", "changes: proving a (1 of 3) ..."),
-            ("rt: a proved (unchanged since it was last proved)\n", "changes: proving b (2 of 3) ..."),
-            ("logic=proved\nrt: a proved (4 s)\nrt: b proved (5 s)\n", "changes: proving c (3 of 3) ..."),
-            ("rt: a proved (4 s)\nrt: c NOT PROVED (exit 1, 5 s)\n", "changes: proving b (3 of 3) ..."),
-            ("rt: a proved (1 s)\nrt: b proved (1 s)\nrt: c proved (1 s)\n", None),
+            ("rt: chose --jobs 2 for ", "changes: proving a (1 of 3) ..."),
+            ("rt: chose --jobs 2 for a\n", "changes: proving a (1 of 3) ..."),
+            ("rt: chose --jobs 2 for a\nlogic=proved\nrt: chose --jobs 4 for b\n", "changes: proving b (2 of 3) ..."),
+            ("rt: a: begins with what a check kept\nrt: chose --jobs 1 for c\n", "changes: proving c (3 of 3) ..."),
+            ("rt: chose --jobs 2 for c\nrt: running out/c; to give it other input, run that file yourself\n", None),
         ):
             self.assertEqual(program.progress(order, printed), expected)
         self.assertIsNone(program.progress([], ""))
@@ -111,10 +111,10 @@ class Progress(unittest.TestCase):
         return told, printed
 
     def test_a_silence_is_told(self):
-        told, printed = self.watch("rt: a proved (3 s)\n", "logic=é", "\nrt: b proved (1 s)\n", "rt: ok\n")
+        told, printed = self.watch("rt: chose --jobs 2 for b\n", "logic=é", "\nrt: running out/b\n", "refused 7\n")
         self.assertEqual(told, ["changes: proving a (1 of 2) ...", "changes: proving b (2 of 2) ...",
                                 "changes: proving b (2 of 2) ...", None])
-        self.assertEqual(printed, "rt: a proved (3 s)\nlogic=é\nrt: b proved (1 s)\nrt: ok\n")
+        self.assertEqual(printed, "rt: chose --jobs 2 for b\nlogic=é\nrt: running out/b\nrefused 7\n")
 
     def said(self, stream, *texts):
         """What a line's texts leave on standard error."""

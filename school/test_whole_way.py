@@ -27,15 +27,15 @@ class Repository(unittest.TestCase):
         folder = tempfile.TemporaryDirectory()
         self.addCleanup(folder.cleanup)
         self.root = pathlib.Path(folder.name)
-        for part in ("school", "target/bin", "path"):
+        for part in ("school", "crates/schedule/out", "path"):
             (self.root / part).mkdir(parents=True)
         for file in PARTS:
             shutil.copy(HERE / file, self.root / "school" / file)
         (self.root / "crates.txt").write_text("model:\nword: model\nschedule: word model kit\nlast: schedule\n")
-        self.script("path/rt", f"#!/bin/sh\n[ \"$*\" = 'check schedule' ] && [ \"$PWD\" = {self.root} ] || exit 1\n"
+        self.script("path/rt", f"#!/bin/sh\n[ \"$*\" = run ] && [ \"$PWD\" = {self.root}/crates/schedule ] || exit 1\n"
                     "for crate in model word schedule\n"
-                    "do echo \"rt: $crate proved (unchanged since it was last proved)\"; done\n")
-        self.script("target/bin/schedule", f"#!{sys.executable}\nimport sys\nsys.dont_write_bytecode = True\n"
+                    "do echo \"rt: chose --jobs 2 for $crate\" >&2; done\necho refused 7\n")
+        self.script("crates/schedule/out/schedule", f"#!{sys.executable}\nimport sys\nsys.dont_write_bytecode = True\n"
                     f"sys.path.insert(0, {str(HERE)!r})\nimport stand_in\n"
                     "sys.stdout.write(stand_in.walk(sys.stdin.buffer.read()))\n")
 
@@ -87,7 +87,7 @@ class WholeWay(Repository):
 
     def test_toolchain_fails(self):
         self.script("path/rt", "#!/bin/sh\necho not proved\necho hm >&2\nexit 1\n")
-        self.assertEqual(self.run_it(), (3, "", "not proved\nhm\nchanges: rt check schedule failed with status 1\n"))
+        self.assertEqual(self.run_it(), (3, "", "not proved\nhm\nchanges: rt run in crates/schedule failed with status 1\n"))
 
     def test_toolchain_cannot_be_run(self):
         self.script("path/rt", "#!/no/such\n")
@@ -97,15 +97,15 @@ class WholeWay(Repository):
 
     def test_program_fails(self):
         for script in ("#!/bin/sh\nexit 9\n", "#!/bin/sh\necho hm\n", "#!/no/such\n", "#!/bin/sh\nkill -9 $$\n"):
-            self.script("target/bin/schedule", script)
+            self.script("crates/schedule/out/schedule", script)
             status, out, err = self.run_it()
             self.assertEqual((status, out), (3, ""))
             self.assertNotIn("Traceback", err)
-        (self.root / "target/bin/schedule").unlink()
+        (self.root / "crates/schedule/out/schedule").unlink()
         self.assertEqual(self.run_it()[0], 3)
 
     def test_program_answers_and_fails(self):
-        made = self.root / "target/bin/schedule"
+        made = self.root / "crates/schedule/out/schedule"
         made.write_text(made.read_text() + "sys.exit(9)\n")
         self.assertIn("ended with status 9", self.run_it()[2])
 
@@ -142,8 +142,8 @@ class Proving(Repository):
         path.write_text(path.read_text("utf-8").replace(f"PATIENCE = {program.PATIENCE} ", "PATIENCE = 0.05 "), "utf-8")
         wait = ("wait_for() { n=0; until grep -qs \"$1\" said; do\n"
                 "n=$((n + 1)); [ $n -lt 600 ] || exit 1; sleep 0.05; done; }\n")
-        told = [f"wait_for 'proving {crate} '\necho 'rt: {crate} proved (7 s)'\n" for crate in crates]
-        self.script("path/rt", f"#!/bin/sh\n{wait}{''.join(told)}echo 'rt: ok, 3 crates proved'\n")
+        told = [f"echo 'rt: chose --jobs 2 for {crate}'\nwait_for 'proving {crate} '\n" for crate in crates]
+        self.script("path/rt", f"#!/bin/sh\ncd {self.root}\n{wait}{''.join(told)}echo 'logic=proved'\n")
 
     def test_which_crate_is_being_proved(self):
         self.slow_rt("model", "word", "schedule")
@@ -157,12 +157,12 @@ class Proving(Repository):
     def test_a_proof_that_fails(self):
         self.slow_rt("model")
         with open(self.root / "path/rt", "a", encoding="utf-8") as file:
-            file.write("echo 'rt: word NOT PROVED (exit 1, 7 s)'\nexit 1\n")
+            file.write("echo 'rt: the library model did not build'\nexit 1\n")
         shell = f"{self.root}/school/changes.py --at {AT} 2> {self.root}/said"
         self.assertEqual(subprocess.run(["sh", "-c", shell], env=self.environment(), check=False).returncode, 3)
         self.assertEqual((self.root / "said").read_text(), "changes: proving model (1 of 3) ...\n"
-                         "rt: model proved (7 s)\nrt: ok, 3 crates proved\nrt: word NOT PROVED (exit 1, 7 s)\n"
-                         "changes: rt check schedule failed with status 1\n")
+                         "rt: chose --jobs 2 for model\nlogic=proved\nrt: the library model did not build\n"
+                         "changes: rt run in crates/schedule failed with status 1\n")
 
     def test_stopped_while_rt_is_at_work(self):
         self.script("path/rt", f"#!/bin/sh\necho $$ > {self.root}/started\nmv {self.root}/started {self.root}/pid\n"

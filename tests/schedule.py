@@ -3,7 +3,7 @@
 and the program `vectors` with standard input and output that are closed, unreadable, full or cut.
 
 What is expected comes from the readers and rules of tests/vectors.py and a walk written here, never from a run of the port.
-Usage: tests/schedule.py, once `rt check` has built both programs in target/bin."""
+Usage: tests/schedule.py, once `rt ci`, or `rt run` in each one's folder, has built both programs as crates/NAME/out/NAME."""
 import os
 import pathlib
 import random
@@ -17,8 +17,8 @@ import tempfile
 
 from vectors import TOP, ends, entries, read_window, read_zone, section, some_windows, some_zones, window, windows_answer, zone, zones_answer
 
-PROGRAMS = pathlib.Path(__file__).resolve().parent.parent / "target" / "bin"
-PROGRAM, VECTORS = PROGRAMS / "schedule", PROGRAMS / "vectors"
+CRATES = pathlib.Path(__file__).resolve().parent.parent / "crates"
+PROGRAM, VECTORS = (CRATES / name / "out" / name for name in ("schedule", "vectors"))
 REFUSED = "refused 7\n"
 LONGEST = 970
 

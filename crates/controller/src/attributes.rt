@@ -6,13 +6,7 @@ ghost use Rattle.readings.specs.Readings.{database, generation, granularity, loc
 ghost use Rattle.std.specs.Prelude.{◌≡◌};
 
 // The UTC time at a tick: whether it is reliable, and the current or the last known moment.
-#[unsafe(no_mangle)]
-pub extern "C" fn timesync_utc_time(
-    image: &[u8],
-    tick: u64,
-    reliable: &mut u64,
-    utc_us: &mut u64,
-) -> u64
+pub fn timesync_utc_time(image: &[u8], tick: u64, reliable: &mut u64, utc_us: &mut u64) -> u64
     ensures { (result ≡ number_of (utc_time image.now tick))
         × (reliable.new ≡ leaves (utc_time image.now tick) reliable_mark reliable.old)
         × (utc_us.new ≡ leaves (utc_time image.now tick) moment_of utc_us.old) }
@@ -21,8 +15,7 @@ pub extern "C" fn timesync_utc_time(
 }
 
 // Granularity, by its number.
-#[unsafe(no_mangle)]
-pub extern "C" fn timesync_utc_time_granularity(image: &[u8], value: &mut u64) -> u64
+pub fn timesync_utc_time_granularity(image: &[u8], value: &mut u64) -> u64
     ensures { (result ≡ number_of (granularity image.now))
         × (value.new ≡ leaves (granularity image.now) (λ n. n) value.old) }
 {
@@ -30,8 +23,7 @@ pub extern "C" fn timesync_utc_time_granularity(image: &[u8], value: &mut u64) -
 }
 
 // TimeSource, by its number.
-#[unsafe(no_mangle)]
-pub extern "C" fn timesync_utc_time_source(image: &[u8], value: &mut u64) -> u64
+pub fn timesync_utc_time_source(image: &[u8], value: &mut u64) -> u64
     ensures { (result ≡ number_of (time_source image.now))
         × (value.new ≡ leaves (time_source image.now) (λ n. n) value.old) }
 {
@@ -39,8 +31,7 @@ pub extern "C" fn timesync_utc_time_source(image: &[u8], value: &mut u64) -> u64
 }
 
 // TrustedTimeSource, or that there is none.
-#[unsafe(no_mangle)]
-pub extern "C" fn timesync_trusted_time_source(
+pub fn timesync_trusted_time_source(
     image: &[u8],
     there: &mut u64,
     fab_idx: &mut u64,
@@ -57,13 +48,7 @@ pub extern "C" fn timesync_trusted_time_source(
 }
 
 // LocalTime at a tick, or null.
-#[unsafe(no_mangle)]
-pub extern "C" fn timesync_local_time(
-    image: &[u8],
-    tick: u64,
-    there: &mut u64,
-    local_us: &mut u64,
-) -> u64
+pub fn timesync_local_time(image: &[u8], tick: u64, there: &mut u64, local_us: &mut u64) -> u64
     ensures { (result ≡ number_of (local_time image.now tick))
         × (there.new ≡ leaves (local_time image.now tick) mark_of there.old)
         × (local_us.new ≡ leaves (local_time image.now tick) or_zero local_us.old) }
@@ -72,8 +57,7 @@ pub extern "C" fn timesync_local_time(
 }
 
 // TimeZone: how many zones are listed.
-#[unsafe(no_mangle)]
-pub extern "C" fn timesync_time_zone_count(image: &[u8], value: &mut u64) -> u64
+pub fn timesync_time_zone_count(image: &[u8], value: &mut u64) -> u64
     ensures { (result ≡ number_of (zones_listed image.now))
         × (value.new ≡ leaves (zones_listed image.now) (λ n. n) value.old) }
 {
@@ -81,8 +65,7 @@ pub extern "C" fn timesync_time_zone_count(image: &[u8], value: &mut u64) -> u64
 }
 
 // DSTOffset: how many windows there are.
-#[unsafe(no_mangle)]
-pub extern "C" fn timesync_dst_offset_count(image: &[u8], value: &mut u64) -> u64
+pub fn timesync_dst_offset_count(image: &[u8], value: &mut u64) -> u64
     ensures { (result ≡ number_of (windows_listed image.now))
         × (value.new ≡ leaves (windows_listed image.now) (λ n. n) value.old) }
 {
@@ -90,8 +73,7 @@ pub extern "C" fn timesync_dst_offset_count(image: &[u8], value: &mut u64) -> u6
 }
 
 // TimeZoneListMaxSize.
-#[unsafe(no_mangle)]
-pub extern "C" fn timesync_time_zone_list_max_size(image: &[u8], value: &mut u64) -> u64
+pub fn timesync_time_zone_list_max_size(image: &[u8], value: &mut u64) -> u64
     ensures { (result ≡ number_of (zone_limit image.now))
         × (value.new ≡ leaves (zone_limit image.now) (λ n. n) value.old) }
 {
@@ -99,8 +81,7 @@ pub extern "C" fn timesync_time_zone_list_max_size(image: &[u8], value: &mut u64
 }
 
 // DSTOffsetListMaxSize.
-#[unsafe(no_mangle)]
-pub extern "C" fn timesync_dst_offset_list_max_size(image: &[u8], value: &mut u64) -> u64
+pub fn timesync_dst_offset_list_max_size(image: &[u8], value: &mut u64) -> u64
     ensures { (result ≡ number_of (window_limit image.now))
         × (value.new ≡ leaves (window_limit image.now) (λ n. n) value.old) }
 {
@@ -108,8 +89,7 @@ pub extern "C" fn timesync_dst_offset_list_max_size(image: &[u8], value: &mut u6
 }
 
 // TimeZoneDatabase: None, whose number is 2.
-#[unsafe(no_mangle)]
-pub extern "C" fn timesync_time_zone_database(image: &[u8], value: &mut u64) -> u64
+pub fn timesync_time_zone_database(image: &[u8], value: &mut u64) -> u64
     ensures { (result ≡ number_of (database image.now))
         × (value.new ≡ leaves (database image.now) (λ n. n) value.old) }
 {
@@ -117,8 +97,7 @@ pub extern "C" fn timesync_time_zone_database(image: &[u8], value: &mut u64) -> 
 }
 
 // How many changes of the lists there were.
-#[unsafe(no_mangle)]
-pub extern "C" fn timesync_generation(image: &[u8], value: &mut u64) -> u64
+pub fn timesync_generation(image: &[u8], value: &mut u64) -> u64
     ensures { (result ≡ number_of (generation image.now))
         × (value.new ≡ leaves (generation image.now) (λ n. n) value.old) }
 {
@@ -126,8 +105,7 @@ pub extern "C" fn timesync_generation(image: &[u8], value: &mut u64) -> u64
 }
 
 // Whether some window is open or ends after now.
-#[unsafe(no_mangle)]
-pub extern "C" fn timesync_dst_usable(image: &[u8], utc: u64, value: &mut u64) -> u64
+pub fn timesync_dst_usable(image: &[u8], utc: u64, value: &mut u64) -> u64
     ensures { (result ≡ number_of (usable image.now utc))
         × (value.new ≡ leaves (usable image.now utc) truth value.old) }
 {
@@ -135,8 +113,7 @@ pub extern "C" fn timesync_dst_usable(image: &[u8], utc: u64, value: &mut u64) -
 }
 
 // Whether there is no window at all.
-#[unsafe(no_mangle)]
-pub extern "C" fn timesync_dst_table_empty(image: &[u8], value: &mut u64) -> u64
+pub fn timesync_dst_table_empty(image: &[u8], value: &mut u64) -> u64
     ensures { (result ≡ number_of (table_empty image.now))
         × (value.new ≡ leaves (table_empty image.now) truth value.old) }
 {

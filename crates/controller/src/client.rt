@@ -4,8 +4,7 @@ ghost use Rattle.steps.specs.Steps.{attempt_outcome, change_outcome, look_outcom
 ghost use Rattle.std.specs.Prelude.{◌≡◌};
 
 // A look at a tick. What TimeZoneStatus and DSTStatus carry is 0 where they are not emitted.
-#[unsafe(no_mangle)]
-pub extern "C" fn timesync_look(
+pub fn timesync_look(
     image: &mut [u8],
     tick: u64,
     name: &mut [u8],
@@ -33,8 +32,7 @@ pub extern "C" fn timesync_look(
 }
 
 // An attempt at a tick: whether the exchange was answered, and the moment and the granularity that came, each where its mark is not 0.
-#[unsafe(no_mangle)]
-pub extern "C" fn timesync_attempt(
+pub fn timesync_attempt(
     image: &mut [u8],
     answered: u8,
     has_utc: u8,
@@ -65,12 +63,7 @@ pub extern "C" fn timesync_attempt(
 }
 
 // The trusted time source has changed: the retries start over.
-#[unsafe(no_mangle)]
-pub extern "C" fn timesync_source_changed(
-    image: &mut [u8],
-    wait: &mut u64,
-    wait_us: &mut u64,
-) -> u64
+pub fn timesync_source_changed(image: &mut [u8], wait: &mut u64, wait_us: &mut u64) -> u64
     ensures { let o = change_outcome image.old wait.old wait_us.old in
         (result ≡ o.returned)
         × (image.new ≡ o.image)

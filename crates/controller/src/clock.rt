@@ -4,8 +4,7 @@ ghost use Rattle.image.specs.Asked.{given};
 ghost use Rattle.std.specs.Prelude.{◌≡◌};
 
 // Makes a new image: with a list store of these limits where the mark is not 0, else without one.
-#[unsafe(no_mangle)]
-pub extern "C" fn timesync_new(
+pub fn timesync_new(
     image: &mut [u8],
     list_store: u8,
     zone_limit: usize,
@@ -20,8 +19,7 @@ pub extern "C" fn timesync_new(
 }
 
 // SetUTCTime; `source` is the request's time source where `has_source` is not 0.
-#[unsafe(no_mangle)]
-pub extern "C" fn timesync_set_utc_time(
+pub fn timesync_set_utc_time(
     image: &mut [u8],
     utc_us: u64,
     granularity: u8,
@@ -36,8 +34,7 @@ pub extern "C" fn timesync_set_utc_time(
 }
 
 // SetTrustedTimeSource for the fabric that asks; without a named node the source is cleared.
-#[unsafe(no_mangle)]
-pub extern "C" fn timesync_set_trusted_time_source(
+pub fn timesync_set_trusted_time_source(
     image: &mut [u8],
     fab_idx: u8,
     named: u8,
@@ -51,8 +48,7 @@ pub extern "C" fn timesync_set_trusted_time_source(
 }
 
 // Sets the UTC time with a source of any kind; `changed` is whether something changed.
-#[unsafe(no_mangle)]
-pub extern "C" fn timesync_rtc_set_utc_time(
+pub fn timesync_rtc_set_utc_time(
     image: &mut [u8],
     utc_us: u64,
     granularity: u8,
@@ -68,8 +64,7 @@ pub extern "C" fn timesync_rtc_set_utc_time(
 }
 
 // The same, and has the moment stored that is a day or more from the persisted one.
-#[unsafe(no_mangle)]
-pub extern "C" fn timesync_rtc_set_utc_time_persist(
+pub fn timesync_rtc_set_utc_time_persist(
     image: &mut [u8],
     utc_us: u64,
     granularity: u8,
@@ -85,8 +80,7 @@ pub extern "C" fn timesync_rtc_set_utc_time_persist(
 }
 
 // Loads the clock from what flash holds of it.
-#[unsafe(no_mangle)]
-pub extern "C" fn timesync_load_clock(
+pub fn timesync_load_clock(
     image: &mut [u8],
     build: u64,
     has_moment: u8,
@@ -105,8 +99,7 @@ pub extern "C" fn timesync_load_clock(
 }
 
 // Resets the clock.
-#[unsafe(no_mangle)]
-pub extern "C" fn timesync_reset_clock(image: &mut [u8], build: u64) -> u64
+pub fn timesync_reset_clock(image: &mut [u8], build: u64) -> u64
     ensures { (result ≡ (reset_clock image.old build).returned)
         × (image.new ≡ (reset_clock image.old build).image) }
 {

@@ -5,8 +5,7 @@ ghost use Rattle.readings.specs.Readings.{active_offset, active_zone, next_trans
 ghost use Rattle.std.specs.Prelude.{length, ◌≡◌};
 
 // TimeZone: one of the listed zones; its name is copied to the front of `name`.
-#[unsafe(no_mangle)]
-pub extern "C" fn timesync_time_zone(
+pub fn timesync_time_zone(
     image: &[u8],
     index: usize,
     name: &mut [u8],
@@ -26,8 +25,7 @@ pub extern "C" fn timesync_time_zone(
 }
 
 // DSTOffset: one of the windows.
-#[unsafe(no_mangle)]
-pub extern "C" fn timesync_dst_offset(
+pub fn timesync_dst_offset(
     image: &[u8],
     index: usize,
     offset: &mut i32,
@@ -45,8 +43,7 @@ pub extern "C" fn timesync_dst_offset(
 }
 
 // The active zone; its name is copied to the front of `name`.
-#[unsafe(no_mangle)]
-pub extern "C" fn timesync_active_time_zone(
+pub fn timesync_active_time_zone(
     image: &[u8],
     utc: u64,
     name: &mut [u8],
@@ -64,13 +61,7 @@ pub extern "C" fn timesync_active_time_zone(
 }
 
 // The offset of the first active window, or that none is active.
-#[unsafe(no_mangle)]
-pub extern "C" fn timesync_active_dst_offset(
-    image: &[u8],
-    utc: u64,
-    there: &mut u64,
-    offset: &mut i32,
-) -> u64
+pub fn timesync_active_dst_offset(image: &[u8], utc: u64, there: &mut u64, offset: &mut i32) -> u64
     ensures { (result ≡ number_of (active_offset image.now utc))
         × (there.new ≡ leaves (active_offset image.now utc) mark_of there.old)
         × (offset.new ≡ leaves (active_offset image.now utc) or_zeroℤ offset.old) }
@@ -79,13 +70,7 @@ pub extern "C" fn timesync_active_dst_offset(
 }
 
 // The smallest start or end after now, or that there is none.
-#[unsafe(no_mangle)]
-pub extern "C" fn timesync_next_transition(
-    image: &[u8],
-    utc: u64,
-    there: &mut u64,
-    moment: &mut u64,
-) -> u64
+pub fn timesync_next_transition(image: &[u8], utc: u64, there: &mut u64, moment: &mut u64) -> u64
     ensures { (result ≡ number_of (next_transition image.now utc))
         × (there.new ≡ leaves (next_transition image.now utc) mark_of there.old)
         × (moment.new ≡ leaves (next_transition image.now utc) or_zero moment.old) }
@@ -94,13 +79,7 @@ pub extern "C" fn timesync_next_transition(
 }
 
 // The walk: its moments to the front of `moments`, 8 bytes each and the starting moment first, and the number of steps.
-#[unsafe(no_mangle)]
-pub extern "C" fn timesync_walk(
-    image: &[u8],
-    start: u64,
-    moments: &mut [u8],
-    steps: &mut u64,
-) -> u64
+pub fn timesync_walk(image: &[u8], start: u64, moments: &mut [u8], steps: &mut u64) -> u64
     ensures { (result ≡ number_of (walked image.now start (length moments.old)))
         × (moments.new ≡ leaves_copy (walked image.now start (length moments.old)) walk_bytes moments.old)
         × (steps.new ≡ leaves (walked image.now start (length moments.old)) (λ w. w.steps) steps.old) }
@@ -109,8 +88,7 @@ pub extern "C" fn timesync_walk(
 }
 
 // The record of both lists to the front of `out`, and its length.
-#[unsafe(no_mangle)]
-pub extern "C" fn timesync_record(image: &[u8], out: &mut [u8], used: &mut u64) -> u64
+pub fn timesync_record(image: &[u8], out: &mut [u8], used: &mut u64) -> u64
     ensures { (result ≡ number_of (record_read image.now (length out.old)))
         × (out.new ≡ leaves_copy (record_read image.now (length out.old)) record_bytes out.old)
         × (used.new ≡ leaves (record_read image.now (length out.old)) (λ b. length b) used.old) }

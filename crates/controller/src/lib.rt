@@ -1,5 +1,5 @@
-// The entry points for C. Each works on numbers, on slices, and on one image that the caller lends; include/timesync.h says how to call
-// them. The rules stand in the crates below; an entry point only hands over.
+// The entry points, as a library. Each works on numbers, on slices, and on one image that the caller lends. The rules stand in the crates
+// below; an entry point only hands over. Crate `controller_c` exports them to C.
 #![tactic(auto)]
 
 pub mod attributes;
@@ -12,8 +12,7 @@ ghost use Rattle.std.specs.Prelude.{◌≡◌};
 ghost use Rattle.image.specs.Layout.{image_size};
 
 // How many bytes an image has.
-#[unsafe(no_mangle)]
-pub extern "C" fn timesync_image_size() -> u64
+pub fn timesync_image_size() -> u64
     ensures { result ≡ image_size }
 {
     image::place::SIZE as u64

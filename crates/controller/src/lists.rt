@@ -4,8 +4,7 @@ ghost use Rattle.image.specs.Asked.{given};
 ghost use Rattle.std.specs.Prelude.{◌≡◌};
 
 // SetTimeZone; the record to store is copied to the front of `out`, and `used` is its length.
-#[unsafe(no_mangle)]
-pub extern "C" fn timesync_set_time_zone(
+pub fn timesync_set_time_zone(
     image: &mut [u8],
     request: &[u8],
     out: &mut [u8],
@@ -20,8 +19,7 @@ pub extern "C" fn timesync_set_time_zone(
 }
 
 // SetDSTOffset; the same.
-#[unsafe(no_mangle)]
-pub extern "C" fn timesync_set_dst_offset(
+pub fn timesync_set_dst_offset(
     image: &mut [u8],
     request: &[u8],
     out: &mut [u8],
@@ -36,8 +34,7 @@ pub extern "C" fn timesync_set_dst_offset(
 }
 
 // Loads the lists from their record where `there` is not 0.
-#[unsafe(no_mangle)]
-pub extern "C" fn timesync_load_lists(image: &mut [u8], there: u8, stored: &[u8]) -> u64
+pub fn timesync_load_lists(image: &mut [u8], there: u8, stored: &[u8]) -> u64
     ensures { (result ≡ (load_lists image.old (given there stored.now)).returned)
         × (image.new ≡ (load_lists image.old (given there stored.now)).image) }
 {
@@ -45,8 +42,7 @@ pub extern "C" fn timesync_load_lists(image: &mut [u8], there: u8, stored: &[u8]
 }
 
 // Empties the lists.
-#[unsafe(no_mangle)]
-pub extern "C" fn timesync_reset_lists(image: &mut [u8]) -> u64
+pub fn timesync_reset_lists(image: &mut [u8]) -> u64
     ensures { (result ≡ (reset_lists image.old).returned) × (image.new ≡ (reset_lists image.old).image) }
 {
     commands::lists::reset_lists(image)

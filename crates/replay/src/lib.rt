@@ -47,9 +47,9 @@ fn answered(
 ) -> u64
     requires { table_size ≤ length table.now }
     ensures number { result ≡ number_of (answered table.now start at (length moments.old) (length name.old) (length out.old)) }
-    ensures outputs { record { moments = moments.exit.now; steps = steps.new; name = name.new; zone = zone.new; named = named.new; name_used = name_used.new; active = active.new; window = window.new; usable = usable.new; has_next = has_next.new; next = next.new; out = out.new; used = used.new; generation = generation.new }
-        ≡ lent_after (answered table.now start at (length moments.entry.now) (length name.old) (length out.old))
-        (record { moments = moments.entry.now; steps = steps.old; name = name.old; zone = zone.old; named = named.old; name_used = name_used.old; active = active.old; window = window.old; usable = usable.old; has_next = has_next.old; next = next.old; out = out.old; used = used.old; generation = generation.old }) }
+    ensures outputs { record { moments = moments.new; steps = steps.new; name = name.new; zone = zone.new; named = named.new; name_used = name_used.new; active = active.new; window = window.new; usable = usable.new; has_next = has_next.new; next = next.new; out = out.new; used = used.new; generation = generation.new }
+        ≡ lent_after (answered table.now start at (length moments.old) (length name.old) (length out.old))
+        (record { moments = moments.old; steps = steps.old; name = name.old; zone = zone.old; named = named.old; name_used = name_used.old; active = active.old; window = window.old; usable = usable.old; has_next = has_next.old; next = next.old; out = out.old; used = used.old; generation = generation.old }) }
 {
     let walk = lookups::transitions::walk(table, start);
     let n = walk.steps + 1;
@@ -73,8 +73,7 @@ fn answered(
 }
 
 // Makes a list store, runs the calls of a history on it, looks up at a moment and walks from another on.
-#[unsafe(no_mangle)]
-pub extern "C" fn timesync_replay(
+pub fn timesync_replay(
     zone_limit: usize,
     window_limit: usize,
     history: &[u8],
@@ -96,11 +95,11 @@ pub extern "C" fn timesync_replay(
     generation: &mut u64,
 ) -> u64
     ensures number { result ≡ number_of (replayed (record { zone_limit = zone_limit; window_limit = window_limit }) history.now start at (length moments.old) (length name.old) (length out.old)) }
-    ensures outputs { record { moments = moments.exit.now; steps = steps.new; name = name.new; zone = zone.new; named = named.new; name_used = name_used.new; active = active.new; window = window.new; usable = usable.new; has_next = has_next.new; next = next.new; out = out.new; used = used.new; generation = generation.new }
-        ≡ lent_after (replayed (record { zone_limit = zone_limit; window_limit = window_limit }) history.now start at (length moments.entry.now) (length name.old) (length out.old))
-        (record { moments = moments.entry.now; steps = steps.old; name = name.old; zone = zone.old; named = named.old; name_used = name_used.old; active = active.old; window = window.old; usable = usable.old; has_next = has_next.old; next = next.old; out = out.old; used = used.old; generation = generation.old }) }
+    ensures outputs { record { moments = moments.new; steps = steps.new; name = name.new; zone = zone.new; named = named.new; name_used = name_used.new; active = active.new; window = window.new; usable = usable.new; has_next = has_next.new; next = next.new; out = out.new; used = used.new; generation = generation.new }
+        ≡ lent_after (replayed (record { zone_limit = zone_limit; window_limit = window_limit }) history.now start at (length moments.old) (length name.old) (length out.old))
+        (record { moments = moments.old; steps = steps.old; name = name.old; zone = zone.old; named = named.old; name_used = name_used.old; active = active.old; window = window.old; usable = usable.old; has_next = has_next.old; next = next.old; out = out.old; used = used.old; generation = generation.old }) }
     ensures claim { ReplayClaim (record { zone_limit = zone_limit; window_limit = window_limit }) history.now start at result
-        (record { moments = moments.exit.now; steps = steps.new; name = name.new; zone = zone.new; named = named.new; name_used = name_used.new; active = active.new; window = window.new; usable = usable.new; has_next = has_next.new; next = next.new; out = out.new; used = used.new; generation = generation.new }) }
+        (record { moments = moments.new; steps = steps.new; name = name.new; zone = zone.new; named = named.new; name_used = name_used.new; active = active.new; window = window.new; usable = usable.new; has_next = has_next.new; next = next.new; out = out.new; used = used.new; generation = generation.new }) }
 {
     let mut table = [0u8; SIZE];
     match table::new(&mut table, zone_limit, window_limit) {

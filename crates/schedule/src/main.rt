@@ -1,7 +1,8 @@
 // Prints the coming transitions of stored lists: reads a moment and a record from standard input, and writes the text that `schedule_text` makes.
 #![tactic(auto)]
 
-use libc::STDOUT_FILENO;
+// Standard output.
+const STDOUT_FILENO: i32 = 1;
 
 fn main() {
     // One byte more than the longest input, so that a longer one is seen to be longer.

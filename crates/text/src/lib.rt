@@ -18,7 +18,7 @@ pub fn put_word(out: &mut [u8], at: usize, ascii: &[u8]) -> usize
 {
     let n = ascii.len();
     if word::in_bounds(out, at, n) {
-        bytes::copy(ascii, &mut out[at..]);
+        out[at..at + n].copy_from_slice(ascii);
         return at + n;
     }
     at

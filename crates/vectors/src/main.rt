@@ -9,7 +9,9 @@ mod listing;
 mod store;
 mod text;
 
-use libc::STDIN_FILENO;
+
+// Standard input.
+const STDIN_FILENO: i32 = 0;
 
 // Room for the longest name and the longest record.
 pub(crate) const NAME_MAX: usize = 64;

@@ -1,0 +1,53 @@
+// Commands on the lists, their load and their reset.
+ghost use Rattle.commands.specs.Calls.{load_lists, reset_lists, set_dst_offset, set_time_zone};
+ghost use Rattle.image.specs.Asked.{given};
+ghost use Rattle.std.specs.Prelude.{◌≡◌};
+
+// SetTimeZone; the record to store is copied to the front of `out`, and `used` is its length.
+#[unsafe(no_mangle)]
+pub extern "C" fn timesync_set_time_zone(
+    image: &mut [u8],
+    request: &[u8],
+    out: &mut [u8],
+    used: &mut u64,
+) -> u64
+    ensures { (result ≡ (set_time_zone image.old request.now out.old used.old).returned)
+        × (image.new ≡ (set_time_zone image.old request.now out.old used.old).image)
+        × (out.new ≡ (set_time_zone image.old request.now out.old used.old).out)
+        × (used.new ≡ (set_time_zone image.old request.now out.old used.old).used) }
+{
+    controller::lists::timesync_set_time_zone(image, request, out, used)
+}
+
+// SetDSTOffset; the same.
+#[unsafe(no_mangle)]
+pub extern "C" fn timesync_set_dst_offset(
+    image: &mut [u8],
+    request: &[u8],
+    out: &mut [u8],
+    used: &mut u64,
+) -> u64
+    ensures { (result ≡ (set_dst_offset image.old request.now out.old used.old).returned)
+        × (image.new ≡ (set_dst_offset image.old request.now out.old used.old).image)
+        × (out.new ≡ (set_dst_offset image.old request.now out.old used.old).out)
+        × (used.new ≡ (set_dst_offset image.old request.now out.old used.old).used) }
+{
+    controller::lists::timesync_set_dst_offset(image, request, out, used)
+}
+
+// Loads the lists from their record where `there` is not 0.
+#[unsafe(no_mangle)]
+pub extern "C" fn timesync_load_lists(image: &mut [u8], there: u8, stored: &[u8]) -> u64
+    ensures { (result ≡ (load_lists image.old (given there stored.now)).returned)
+        × (image.new ≡ (load_lists image.old (given there stored.now)).image) }
+{
+    controller::lists::timesync_load_lists(image, there, stored)
+}
+
+// Empties the lists.
+#[unsafe(no_mangle)]
+pub extern "C" fn timesync_reset_lists(image: &mut [u8]) -> u64
+    ensures { (result ≡ (reset_lists image.old).returned) × (image.new ≡ (reset_lists image.old).image) }
+{
+    controller::lists::timesync_reset_lists(image)
+}
