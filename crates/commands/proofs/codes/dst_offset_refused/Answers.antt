@@ -13,24 +13,20 @@ use Rattle.model.specs.Basics.{when}
 use Rattle.model.specs.Bytes.{number}
 use Rattle.model.specs.Answers.{wake_timer}
 use Rattle.model.specs.Codes.{returned}
-use Rattle.model.specs.contracts.Refusal.{the_type}
 use Rattle.table.specs.Left.{empties}
 use Rattle.commands.proofs.codes.dst_offset_refused.Goals as goal
 
--- the causes that the last arm takes
-abbrev others : List ℕ
-others = 0 ∷ 3 ∷ 4 ∷ 5 ∷ 6 ∷ 7 ∷ 8 ∷ []
-
-kept : (cause : Refusal) → OneOf others (tag_of the_type cause) → false ≡ empties cause
-kept R.Unreadable h = refl
-kept R.ConstraintError h = absurd (miss others 1 tt h)
-kept R.ResourceExhausted h = absurd (miss others 2 tt h)
-kept R.InvalidCommand h = refl
-kept R.CommandNotFound h = refl
-kept R.AttributeNotFound h = refl
-kept R.BadRecord h = refl
-kept R.BadLimits h = refl
-kept R.NoSpace h = refl
+-- the last arm takes no refusal that empties the list
+kept : (cause : Refusal) → (cause ≡ R.ConstraintError → ⊥) → (cause ≡ R.ResourceExhausted → ⊥) → false ≡ empties cause
+kept R.Unreadable h k = refl
+kept R.ConstraintError h k = absurd (h refl)
+kept R.ResourceExhausted h k = absurd (k refl)
+kept R.InvalidCommand h k = refl
+kept R.CommandNotFound h k = refl
+kept R.AttributeNotFound h k = refl
+kept R.BadRecord h k = refl
+kept R.BadLimits h k = refl
+kept R.NoSpace h k = refl
 
 pub returns-in-ConstraintError : goal.returns-in-ConstraintError
 unfolding returned number
@@ -43,4 +39,4 @@ returns-in-ResourceExhausted c = rw c.in-ResourceExhausted.is
 pub returns-in_default : goal.returns-in_default
 returns-in_default c =
     let cause = c.args.cause in
-    c.refusal.ensures ∙ ap (λ (b : Bool). returned (refusal_number cause) (when b wake_timer)) (kept cause c.in_default.in_default-own.keys3)
+    c.refusal.ensures ∙ ap (λ (b : Bool). returned (refusal_number cause) (when b wake_timer)) (kept cause c.in_default.not-ConstraintError c.in_default.not-ResourceExhausted)

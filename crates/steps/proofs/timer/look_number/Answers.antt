@@ -15,6 +15,6 @@ returns c =
     let l = c.args.look in
     let last = when l.dst_table_empty DSTTableEmpty in
     let status = DSTStatus l.dst_active in
-    let late = event_is l.dst_status status last (event_last l.dst_table_empty DSTTableEmpty c.with_first-empty.ensures.0) c.with_first-status.ensures.0 in
-    let all = event_is l.zone_status (TimeZoneStatus l.zone.offset (shown_name t l.zone)) (when l.dst_status status ++ last) late c.with_first.ensures.0 in
+    let late = event_is l.dst_status status last (event_last l.dst_table_empty DSTTableEmpty c.with_first-empty.ensures.value) c.with_first-status.ensures.value in
+    let all = event_is l.zone_status (TimeZoneStatus l.zone.offset (shown_name t l.zone)) (when l.dst_status status ++ last) late c.with_first.ensures.value in
     returned_is (emitted (look_of t l)) all c.taken.ensures
