@@ -11,8 +11,7 @@ use lib.Seq.{take-length, drop-length, drop-drop}
 use Rattle.word.specs.Place.{put}
 use Rattle.word.proofs.Places.{fitting}
 use Rattle.text.proofs.Runs.{is_written, not_written}
-use Rattle.text.proofs.put_word.Statement.{statement}
-use Rattle.text.proofs.put_word.Tie as tie
+use Rattle.text.proofs.put_word.Goals as goal
 
 module _ (s : List ℕ) (at : ℕ) (bs : List ℕ) (h : at + length bs ≤ length s) where
   -- what is lent from `at` on
@@ -29,29 +28,20 @@ module _ (s : List ℕ) (at : ℕ) (bs : List ℕ) (h : at + length bs ≤ lengt
       ∙ sym (append_assoc (take at s) bs (drop (length bs) (drop at s)))
       ∙ ap (λ (l : List ℕ). take at s ++ bs ++ l) (drop-drop (length bs) at s)
 
--- the word fits
-fits : (c : tie.Then1) → let a = c.before.before.before.before.before.args in a.at + length a.ascii.now ≤ length a.out.now
-fits c = let a = c.before.before.before.before.before.args in fitting (length a.ascii.now) a.out.now a.at c.before.in_bounds.ensures c.if1.true
+-- LEFT
+-- copy-requires : tie.Need-copy-requires
+-- copy-requires c κs =
+--     let a = c.before.before.before.before.before.before.args in
+--     omega (arith, fits c.before, ap length (lent a.out.now a.at a.ascii.now (fits c.before)), length-drop a.at a.out.now)
 
-copy-requires : tie.Need-copy-requires
-copy-requires c κs =
-    let a = c.before.before.before.before.before.before.args in
-    omega (arith, fits c.before, ap length (lent a.out.now a.at a.ascii.now (fits c.before)), length-drop a.at a.out.now)
+pub returns-then-in_bounds : goal.returns-then-in_bounds
+returns-then-in_bounds c =
+    let fits : let a = c.args in a.at + length a.ascii.now ≤ length a.out.now = let a = c.args in fitting (length a.ascii.now) a.out.now a.at c.in_bounds.ensures c.if-in_bounds.true in
+    let a = c.args in
+    let w = is_written a.out.now a.at a.ascii.now fits in
+    (ap (put_mid a.at (length a.out.now - a.at) a.out.now) c.copy.ensures.1 ∙ back a.out.now a.at a.ascii.now fits ∙ w.0, w.1)
 
-returns : tie.Need-returns
+pub returns : goal.returns
 returns c =
-    let t = c.before.before.before.before in
-    let a = t.before.before.before.before.before.args in
-    let w = is_written a.out.now a.at a.ascii.now (fits t) in
-    (ap (put_mid a.at (length a.out.now - a.at) a.out.now) c.before.before.copy.ensures.1 ∙ back a.out.now a.at a.ascii.now (fits t) ∙ w.0, w.1)
-
-returns-2 : tie.Need-returns-2
-returns-2 c =
-    let a = c.before.before.before.before.before.args in
-    not_written a.out.now a.at a.ascii.now (sym c.before.in_bounds.ensures ∙ c.if1.false)
-
-pub put-word-spec : {M : Type 1} → statement M
-put-word-spec =
-    tie.close
-    (tie.spec (λ c κs. search rules) (λ c. omega (arith, fits c)) (λ c. omega (arith, fits c)) (λ c. search rules)
-    copy-requires (λ c. omega (arith, fits c.before.before.before.before)) (λ c. search rules) returns (λ c. search rules) returns-2)
+    let a = c.args in
+    not_written a.out.now a.at a.ascii.now (sym c.in_bounds.ensures ∙ c.if-in_bounds.false)
