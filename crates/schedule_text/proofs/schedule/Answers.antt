@@ -1,0 +1,50 @@
+-- `schedule_text::schedule` meets its contract.
+use mathlib.Core.List.{List}
+use mathlib.Core.Path.{◌≡◌, ap, ◌∙◌}
+use Prim.Native.Nat.{ℕ, ◌+◌, ◌-◌, ◌≤◌, ◌<◌}
+use native.Mathlib.Omega.{arith}
+use borrow.Author.Rules.{rules}
+use borrow.Author.Rules.{part_to_end}
+use lib.ListN.{length, take, drop, get_or, length-append, replicate}
+use lib.Seq.{get_or-drop}
+use Rattle.model.specs.RoundTrip.{AreBytes}
+use Rattle.model.specs.Schedule.{refused7}
+use Rattle.table.proofs.Requests.{are_bytes}
+use Rattle.schedule_text.specs.declared.Text.{Text}
+use Rattle.schedule_text.specs.Texts.{text_of}
+use Rattle.schedule_text.proofs.Inputs.{too_short_lem, too_long, bad_record, good_record}
+use Rattle.schedule_text.proofs.schedule.Goals as goal
+
+-- the bytes after the moment
+rest-bytes : (s : List ℕ) → ((i : ℕ) → get_or s i 0 < 256) → AreBytes (take (length s - 8) (drop 8 s))
+rest-bytes s f = rw (part_to_end s 8) (are_bytes (drop 8 s) (λ i. rw get_or-drop (f (8 + i))))
+
+-- a text lies in its bytes
+text-fits : (t : Text) (l : List ℕ) → t ≡ text_of l → t.length ≤ length t.bytes
+unfolding text_of
+text-fits t l e = omega (arith, ap (λ (x : Text). x.length) e, ap (λ (x : Text). length x.bytes) e, length-append l (replicate (2879 - length l) 0))
+
+pub returns-then-input-lt-MOMENT_SIZE : goal.returns-then-input-lt-MOMENT_SIZE
+returns-then-input-lt-MOMENT_SIZE c =
+    let s = c.args.input.now in
+    (c.refused.ensures ∙ ap text_of (too_short_lem s c.if-input-lt-MOMENT_SIZE.true), text-fits _ refused7 c.refused.ensures)
+
+pub returns-then-input-gt-MOST_INPUT : goal.returns-then-input-gt-MOST_INPUT
+returns-then-input-gt-MOST_INPUT c =
+    let s = c.args.input.now in
+    (c.refused-then-input-gt-MOST_INPUT.ensures ∙ ap text_of (too_long s c.if-input-gt-MOST_INPUT.true), text-fits _ refused7 c.refused-then-input-gt-MOST_INPUT.ensures)
+
+pub returns-in-TurnedDown : goal.returns-in-TurnedDown
+returns-in-TurnedDown c =
+    let told = c.enum_told-1 in
+    let s = c.args.input.now in
+    let said = bad_record s (omega (arith, c.if-input-lt-MOMENT_SIZE.false)) (omega (arith, c.if-input-gt-MOST_INPUT.false)) c.new.new.table c.new.ensures.1 (take (length s - 8) (drop 8 s)) (part_to_end s 8) c.load.result c.load.ensures.0 told.given.0.0 told.given.1 in
+    (c.refused-in-TurnedDown.ensures ∙ ap text_of said, text-fits _ refused7 c.refused-in-TurnedDown.ensures)
+
+pub returns-in-Accepted : goal.returns-in-Accepted
+returns-in-Accepted c =
+    let told = c.enum_told-in-Accepted-1 in
+    let s = c.args.input.now in
+    let said = good_record s (omega (arith, c.if-input-lt-MOMENT_SIZE.false)) (omega (arith, c.if-input-gt-MOST_INPUT.false)) c.new.new.table c.new.ensures.1 (take (length s - 8) (drop 8 s)) (part_to_end s 8) c.load.result c.load.ensures.0
+    told.given.1 (rest-bytes s (λ i. (c.type_inv.input i).fits)) c.load.new.table c.load.ensures.1 c.u64_at.result c.u64_at.ensures in
+    (c.walked.ensures ∙ ap text_of said, text-fits _ _ c.walked.ensures)
