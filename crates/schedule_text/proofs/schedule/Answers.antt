@@ -27,24 +27,25 @@ text-fits t l e = omega (arith, ap (λ (x : Text). x.length) e, ap (λ (x : Text
 pub returns-then-input-lt-MOMENT_SIZE : goal.returns-then-input-lt-MOMENT_SIZE
 returns-then-input-lt-MOMENT_SIZE c =
     let s = c.args.input.now in
-    (c.refused.ensures ∙ ap text_of (too_short_lem s c.if-input-lt-MOMENT_SIZE.true), text-fits _ refused7 c.refused.ensures)
+    record { says = c.refused.ensures ∙ ap text_of (too_short_lem s c.if-input-lt-MOMENT_SIZE.true); fits = text-fits _ refused7 c.refused.ensures }
 
 pub returns-then-input-gt-MOST_INPUT : goal.returns-then-input-gt-MOST_INPUT
 returns-then-input-gt-MOST_INPUT c =
     let s = c.args.input.now in
-    (c.refused-then-input-gt-MOST_INPUT.ensures ∙ ap text_of (too_long s c.if-input-gt-MOST_INPUT.true), text-fits _ refused7 c.refused-then-input-gt-MOST_INPUT.ensures)
+    record {
+      says = c.refused-then-input-gt-MOST_INPUT.ensures ∙ ap text_of (too_long s c.if-input-gt-MOST_INPUT.true);
+      fits = text-fits _ refused7 c.refused-then-input-gt-MOST_INPUT.ensures;
+    }
 
 pub returns-in-TurnedDown : goal.returns-in-TurnedDown
 returns-in-TurnedDown c =
-    let told = c.enum_told-1 in
     let s = c.args.input.now in
-    let said = bad_record s (omega (arith, c.if-input-lt-MOMENT_SIZE.false)) (omega (arith, c.if-input-gt-MOST_INPUT.false)) c.new.new.table c.new.ensures.1 (take (length s - 8) (drop 8 s)) (part_to_end s 8) c.load.result c.load.ensures.0 told.given.0.0 told.given.1 in
-    (c.refused-in-TurnedDown.ensures ∙ ap text_of said, text-fits _ refused7 c.refused-in-TurnedDown.ensures)
+    let said = bad_record s (omega (arith, c.if-input-lt-MOMENT_SIZE.false)) (omega (arith, c.if-input-gt-MOST_INPUT.false)) c.new.new.table c.new.ensures.1 (take (length s - 8) (drop 8 s)) (part_to_end s 8) c.load.result c.load.ensures.0 c.in-TurnedDown.field-0 c.in-TurnedDown.is in
+    record { says = c.refused-in-TurnedDown.ensures ∙ ap text_of said; fits = text-fits _ refused7 c.refused-in-TurnedDown.ensures }
 
 pub returns-in-Accepted : goal.returns-in-Accepted
 returns-in-Accepted c =
-    let told = c.enum_told-in-Accepted-1 in
     let s = c.args.input.now in
     let said = good_record s (omega (arith, c.if-input-lt-MOMENT_SIZE.false)) (omega (arith, c.if-input-gt-MOST_INPUT.false)) c.new.new.table c.new.ensures.1 (take (length s - 8) (drop 8 s)) (part_to_end s 8) c.load.result c.load.ensures.0
-    told.given.1 (rest-bytes s (λ i. (c.type_inv.input i).fits)) c.load.new.table c.load.ensures.1 c.u64_at.result c.u64_at.ensures in
-    (c.walked.ensures ∙ ap text_of said, text-fits _ _ c.walked.ensures)
+    c.in-Accepted.is (rest-bytes s (λ i. (c.type_inv.input i).fits)) c.load.new.table c.load.ensures.1 c.u64_at.result c.u64_at.ensures in
+    record { says = c.walked.ensures ∙ ap text_of said; fits = text-fits _ _ c.walked.ensures }

@@ -23,7 +23,7 @@ overflow_add-n c = omega (arith, c.least-n.ensures)
 pub loop-i-init : goal.loop-i-init
 loop-i-init c =
     let a = c.args in
-    (ap (λ (k : ℕ). k + 1) c.least-n.ensures, omega arith, sofar_start (line (lists_in a.table.now)) 69 (walked a.t4) a.out.now a.at (omega (arith, c.requires)))
+    (ap (λ (k : ℕ). k + 1) c.least-n.ensures, omega arith, sofar_start (line (lists_in a.table.now)) 69 (walked a.walk) a.out.now a.at (omega (arith, c.requires)))
 
 pub offset_bounds-walk-i : goal.offset_bounds-walk-i
 offset_bounds-walk-i c = omega (arith, c.loop-i.invariant.0)
@@ -36,19 +36,19 @@ put_line-next-requires c = omega (arith, c.loop-i.invariant.0, c.loop-i.invarian
 
 pub loop-i-preserved : goal.loop-i-preserved
 loop-i-preserved c =
-    let whole_array : length c.args.t4.moments ≡ 41 = simp length-map at c.well-formed.1.1.1.0.1.1.0.1.0.1 in
-    let listed : length (walked c.args.t4) ≡ c.least-n.result + 1 = let w = c.args.t4 in
+    let whole_array : length c.args.walk.moments ≡ 41 = search rules in
+    let listed : length (walked c.args.walk) ≡ c.least-n.result + 1 = let w = c.args.walk in
     omega (arith, length-take (suc w.steps) w.moments, whole_array, c.least-n.ensures) in
     let a = c.args in
     let i = c.loop-i.i in
     let v = c.loop-i.invariant in
     let p = c.put_line-next in
-    let m = get_or a.t4.moments i 0 in
+    let m = get_or a.walk.moments i 0 in
     let n = listed in (
       v.0,
       omega arith,
-      sofar_more (line (lists_in a.table.now)) 69 (walked a.t4) a.out.now a.at i c.loop-i.out c.loop-i.next 0 m p.new.out p.result
-          v.2 (omega arith) (get_or-take (suc a.t4.steps) a.t4.moments i 0 (omega (arith, v.0))) p.ensures.0 p.ensures.1 (omega (arith, p.ensures.1, line_length (lists_in a.table.now) m)) (omega (arith, v.2.short, v.0, c.requires)),
+      sofar_more (line (lists_in a.table.now)) 69 (walked a.walk) a.out.now a.at i c.loop-i.out c.loop-i.next 0 m p.new.out p.result
+          v.2 (omega arith) (get_or-take (suc a.walk.steps) a.walk.moments i 0 (omega (arith, v.0))) p.ensures.0 p.ensures.1 (omega (arith, p.ensures.1, line_length (lists_in a.table.now) m)) (omega (arith, v.2.short, v.0, c.requires)),
     )
 
 pub shape_of-out : goal.shape_of-out
@@ -56,10 +56,10 @@ shape_of-out c = writes.same_length c.loop-i.invariant.2.wrote
 
 pub returns : goal.returns
 returns c =
-    let whole_array : length c.args.t4.moments ≡ 41 = simp length-map at c.well-formed.1.1.1.0.1.1.0.1.0.1 in
-    let listed : length (walked c.args.t4) ≡ c.least-n.result + 1 = let w = c.args.t4 in
+    let whole_array : length c.args.walk.moments ≡ 41 = search rules in
+    let listed : length (walked c.args.walk) ≡ c.least-n.result + 1 = let w = c.args.walk in
     omega (arith, length-take (suc w.steps) w.moments, whole_array, c.least-n.ensures) in
     let a = c.args in
     let v = c.loop-i.invariant in
-    let e = ap (all_bytes (line (lists_in a.table.now))) (take_all c.loop-i.i (walked a.t4) (omega (arith, listed, v.0))) in
+    let e = ap (all_bytes (line (lists_in a.table.now))) (take_all c.loop-i.i (walked a.walk) (omega (arith, listed, v.0))) in
     (v.2.wrote.is ∙ ap (put a.out.now a.at) e, v.2.place ∙ ap (λ (bs : List ℕ). a.at + length bs) e)
