@@ -1,7 +1,7 @@
 -- Every call on an image leaves one, with a list store or without, whatever its lists.
-use mathlib.Core.Bool.{Bool, true, false, ◌&&◌, cond}
+use mathlib.Core.Bool.{Bool, true, false, cond}
 use mathlib.Core.List.{List, []}
-use mathlib.Core.Option.{Option, none, some}
+use mathlib.Core.Option.{none, some}
 use mathlib.Core.Path.{◌≡◌, ◌∙◌}
 use Prim.Native.Nat.{ℕ}
 use lib.ListN.{length}
@@ -12,7 +12,7 @@ use Rattle.image.specs.Parts.{has_lists}
 use Rattle.image.proofs.Alone.{table_written, table_long}
 use Rattle.commands.specs.Calls as C
 use Rattle.steps.specs.Steps as S
-use Rattle.claim.specs.Histories.{Entry, set_time_zone, set_dst_offset, load_lists, reset_lists, set_utc_time_command, set_trusted_time_source, rtc_set_utc_time, rtc_set_utc_time_persist, load_clock, reset_clock, look, attempt, source_changed, image_next}
+use Rattle.claim.specs.Histories.{set_time_zone, set_dst_offset, load_lists, reset_lists, set_utc_time_command, set_trusted_time_source, rtc_set_utc_time, rtc_set_utc_time_persist, load_clock, reset_clock, look, attempt, source_changed}
 use Rattle.claim.specs.Claim.{CallLeavesImage}
 use Rattle.claim.proofs.Left.{call_kept, look_kept, attempt_kept, change_kept}
 

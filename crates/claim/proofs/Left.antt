@@ -1,7 +1,7 @@
 -- What a call leaves of an image with a list store: of the lists what the rules make of it.
-use mathlib.Core.Bool.{Bool, true, false}
+use mathlib.Core.Bool.{true}
 use mathlib.Core.List.{List, []}
-use mathlib.Core.Option.{Option, none, some}
+use mathlib.Core.Option.{none, some}
 use mathlib.Core.Path.{◌≡◌, refl, sym, ap, ◌∙◌}
 use Prim.Native.Nat.{ℕ}
 use native.Mathlib.Omega.{arith}
@@ -9,7 +9,6 @@ use lib.ListN.{length}
 use Rattle.model.specs.Basics.{run}
 use Rattle.model.specs.Lists.{Lists}
 use Rattle.model.specs.Answers.{Answer, refused, answers, Result}
-use Rattle.model.specs.Rules.{Rules}
 use Rattle.model.specs.History as M
 use Rattle.model.specs.Store.{Store, store_after}
 use Rattle.model.specs.Output.{SizedCall, stored_by, no_space, after_sized, store_after_sized, leaves}

@@ -3,7 +3,7 @@ use mathlib.Core.Bool.{Bool, true, false, ◌&&◌, cond}
 use mathlib.Core.List.{List, []}
 use mathlib.Core.Option.{Option, none, some}
 use mathlib.Core.Path.{◌≡◌, refl, sym, ap, subst, ◌∙◌}
-use Prim.Native.Nat.{ℕ, ◌+◌}
+use Prim.Native.Nat.{ℕ}
 use native.Mathlib.Omega.{arith}
 use borrow.Author.Tests.{le-ltb}
 use borrow.Rule.Slice.PartMut.{put_mid}
@@ -21,7 +21,6 @@ use Rattle.model.specs.Store as M
 use Rattle.model.specs.Store.{Store}
 use Rattle.model.specs.Handler as H
 use Rattle.model.specs.Handler.{Device, of_store}
-use Rattle.record.specs.Written.{record_of}
 use Rattle.table.specs.Layout.{table_size, store_in}
 use Rattle.table.specs.Left.{load_left, reset_left}
 use Rattle.image.specs.Layout.{is_image, table_place, table_in, with_table}

@@ -2,7 +2,7 @@
 use mathlib.Core.Bool.{Bool, true, false, cond}
 use mathlib.Core.List.{List, [], ◌∷◌}
 use mathlib.Core.Option.{Option, none, some}
-use mathlib.Core.Path.{◌≡◌, refl, sym, ap, subst, ◌∙◌}
+use mathlib.Core.Path.{◌≡◌, refl, sym, ap, ◌∙◌}
 use Prim.Native.Nat.{ℕ, ◌≤◌}
 use native.Mathlib.Omega.{arith}
 use borrow.Author.Tests.{le-ltb, ltb-false}
@@ -27,7 +27,7 @@ use Rattle.rules.specs.declared.Verdict.TheVariants as Said
 use Rattle.rules.specs.Verdicts.{verdict_of, zones_tested, windows_tested, record_tested}
 use Rattle.rules.proofs.Agree.{zones_are_lem, windows_are_lem, is_accepted, is_turned_down}
 use Rattle.table.specs.Layout.{table_size, rules_in, lists_in, generation_in, store_in}
-use Rattle.table.specs.Left.{with_room, time_zone_said, time_zone_left, empties, windows_left, dst_offset_said, dst_offset_left, load_said}
+use Rattle.table.specs.Left.{with_room, time_zone_said, time_zone_left, empties, dst_offset_said, dst_offset_left, load_said}
 use Rattle.table.proofs.Requests.{windows_stay}
 use Rattle.table.proofs.Room.{zones_short, windows_short, zones_said, windows_said}
 use Rattle.table.proofs.Follows.{time_zone_follows, dst_offset_follows}

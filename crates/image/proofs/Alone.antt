@@ -1,9 +1,7 @@
 -- A part that is written leaves the others, and an image.
-use mathlib.Core.List.{List}
-use mathlib.Core.Path.{◌≡◌, ap, ◌∙◌}
-use Prim.Native.Nat.{ℕ, ◌+◌}
+use mathlib.Core.Path.{◌∙◌}
 use native.Mathlib.Omega.{arith}
-use lib.ListN.{length, take, drop, length-take, length-drop}
+use lib.ListN.{length-take, length-drop}
 use lib.Seq.{take_all}
 use Rattle.table.specs.Layout.{table_size}
 use Rattle.image.specs.Layout.{clock_place, timer_place, client_place, table_place, with_table}

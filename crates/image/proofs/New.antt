@@ -11,7 +11,7 @@ use Rattle.model.specs.Bytes.{bytes, number}
 use Rattle.model.specs.Clock.{fresh}
 use Rattle.model.specs.Lists.{empty}
 use Rattle.model.specs.RoundTrip.{IsMoment}
-use Rattle.model.specs.Rules.{Rules, allowed}
+use Rattle.model.specs.Rules.{Rules}
 use Rattle.model.specs.Retries.{new_client}
 use Rattle.model.proofs.Stored.{limits as in_range}
 use Rattle.model.proofs.Words.{length_bytes, number_bytes}

@@ -1,5 +1,5 @@
 -- What holds of images; the proofs stand in proofs/.
-use Rattle.std.specs.Prelude.{Bool, true, not, ◌||◌, cond, List, ◌≡◌, ℕ, ◌^◌, ◌≤◌, ◌<◌, length}
+use Rattle.std.specs.Prelude.{Bool, true, List, ◌≡◌, ℕ, ◌^◌, ◌≤◌, ◌<◌, length}
 use Rattle.std.proofs.Math.Option.{none, some}
 use Rattle.model.specs.RoundTrip.{IsMoment, IsOffset}
 use Rattle.model.specs.Rules.{allowed}

@@ -3,7 +3,7 @@ use mathlib.Core.Bool.{Bool, true, false, beq}
 use mathlib.Core.List.{List, [], ◌∷◌, ◌++◌}
 use mathlib.Core.Option.{Option, none, some}
 use mathlib.Core.Path.{◌≡◌, refl, ap}
-use Prim.Native.Nat.{ℕ, suc, ◌+◌, ◌*◌, ◌-◌, ◌≤◌, zero}
+use Prim.Native.Nat.{ℕ, suc, ◌+◌, ◌*◌, ◌-◌, ◌≤◌}
 use native.Mathlib.Omega.{arith}
 use borrow.Author.Tests.{eqb-true, eqb-false, not-true, le-ltb}
 use lib.Dec.{ltb, eqb}
@@ -13,7 +13,7 @@ use Rattle.model.specs.Basics.{keep, different}
 use Rattle.model.specs.Lists.{Zone, Window, Lists, empty}
 use Rattle.model.specs.Rules.{Rules, Verdict, accepted, turned_down, demand, and_then, test_from, zero_exactly_at_first, above_the_one_before, offset_in_range, name_fits, zone_rule, not_after_open, above_the_start_before, not_below_the_end_before, below_its_own_end, window_rule, test_zones, test_windows}
 use Rattle.model.specs.Bytes.{read_zones, read_windows, read_record}
-use Rattle.model.specs.Lookups.{zone_starts, window_bounds, end_then, boundaries, later}
+use Rattle.model.specs.Lookups.{zone_starts, window_bounds, end_then, later}
 use Rattle.model.specs.Walk.{different_later}
 use Rattle.model.specs.History.{Call, SetTimeZone, SetDSTOffset, Load, FactoryReset, if_accepted, as_bad_record, record_verdict, zones_set, windows_set, record_loaded, loaded, after}
 use Rattle.model.specs.Demand3.{Accepted}

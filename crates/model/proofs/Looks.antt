@@ -13,7 +13,7 @@ use lib.Signed.{le_z}
 use Rattle.model.specs.Basics.{is_some, when, All, smallest, held_at_top}
 use Rattle.model.specs.Lists.{Name, Lists}
 use Rattle.model.specs.Answers.{Event, DSTTableEmpty, DSTStatus, TimeZoneStatus}
-use Rattle.model.specs.Lookups.{active_zone, active_offset, usable, boundaries, later, next_transition}
+use Rattle.model.specs.Lookups.{active_zone, active_offset, boundaries, later, next_transition}
 use Rattle.model.specs.Clock.{Reading, reliable, last_known}
 use Rattle.model.specs.Timer.{Timer, Seen, seen_at, zone_due, active_due, empty_due, events_at, at_most, sleep_until, look}
 use Rattle.model.specs.Looks.{SilentAgain, Instant, events_over, empties, usables, usable_then, last_usable, falls, OnceForEachFall, SleepsFor, SleepsWhereNext, EndsPast, EndsMarginPast, FarFrom, SkipsNone}

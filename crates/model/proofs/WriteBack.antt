@@ -13,7 +13,6 @@ use Rattle.model.specs.Lists.{Name, Zone, Window, Lists}
 use Rattle.model.specs.Bytes.{bytes, bits_of, name_bytes, zone_bytes, until_bytes, window_bytes, all_bytes, section_bytes, zones_bytes, windows_bytes, record_bytes, Front, then, take_bytes, named, read_name, read_until, read_entry, make_zone, make_window, read_zone, read_window, read_all, read_section, whole, read_zones, read_windows, read_record}
 use Rattle.model.specs.RoundTrip.{IsOffset, IsMoment, IsName, IsUntil, ZoneFits, WindowFits, ZonesBack, WindowsBack, RecordBack}
 use Rattle.model.proofs.Words.{length_bytes, number_bytes, signed_bits, bits_below}
-use lib.Dec.{leb}
 
 -- so many bytes off the front
 front : (n : ℕ) (xs ys : List ℕ) → length xs ≡ n → take_bytes n (xs ++ ys) ≡ some (xs, ys)

@@ -1,13 +1,11 @@
 -- A code of the clock is the number of what it names, and 0 where it names nothing.
 use mathlib.Core.Bool.{Bool, true, ◌&&◌, cond}
-use mathlib.Core.List.{List, map}
-use mathlib.Core.Path.{◌≡◌, refl, subst, sym, ap, ◌∙◌}
-use mathlib.Core.Option.{none}
-use Prim.Native.Nat.{ℕ, zero, suc, ◌<◌, ◌≤◌}
+use mathlib.Core.List.{List}
+use mathlib.Core.Path.{◌≡◌, refl, subst, sym}
+use Prim.Native.Nat.{ℕ, zero, suc, ◌<◌}
 use native.Mathlib.Omega.{arith}
 use borrow.Author.Tests.{leb-true, leb-false, eqb-true, eqb-false}
 use lib.Dec.{leb, eqb}
-use lib.ListN.{length, get_elem?}
 use Rattle.model.specs.Numbers.{granularity_number, granularity_of, granularities, source_number, source_of, sources}
 use Rattle.model.specs.Clock as C
 use Rattle.model.proofs.Facts.{by_test, and_both}

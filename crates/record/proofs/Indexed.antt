@@ -8,7 +8,6 @@ use borrow.Author.Tests.{ltb-true, ltb-false}
 use lib.Dec.{ltb}
 use Rattle.model.proofs.Facts.{by_test}
 use Rattle.record.specs.Fronts.{onward, place_after}
-use mathlib.Core.Bool.{true, false}
 
 module _ (next : ℕ → Option ℕ) where
   -- once there is no place there is none

@@ -1,5 +1,5 @@
 -- What the readers' answers say of the entries that a section or a record reads as.
-use mathlib.Core.Bool.{cond, true, false}
+use mathlib.Core.Bool.{cond}
 use mathlib.Core.List.{List, [], ◌∷◌}
 use mathlib.Core.Option.{Option, none, some}
 use mathlib.Core.Path.{◌≡◌, refl, sym, ap, ◌∙◌}
@@ -13,7 +13,7 @@ use Rattle.model.specs.Bytes.{Front, then, byte, read_zone, read_window, read_al
 use Rattle.record.specs.declared.SectionRead.TheVariants as S
 use Rattle.record.specs.declared.RecordRead.TheVariants as R
 use Rattle.record.specs.Fronts.{place_of, zones_at, windows_at, section_found, is_whole, zones_whole, windows_whole, windows_found, zones_found, record_at, place_after}
-use Rattle.record.specs.RoundTrip.{request_found, ZonesMean, WindowsMean, Sections, RecordMeans}
+use Rattle.record.specs.RoundTrip.{request_found, ZonesMean, WindowsMean, RecordMeans}
 use Rattle.model.proofs.Facts.{by_test}
 use Rattle.record.proofs.Front.{byte_at, no_byte}
 use Rattle.record.proofs.Suffix.{Left, Leaves, left_on, left_place, then_leaves, zone_leaves, window_leaves}

@@ -9,7 +9,7 @@ use lib.IntN.{ℤ}
 use lib.ListN.{length, drop, get_or}
 use Rattle.model.specs.declared.MaybeU64.{MaybeU64}
 use Rattle.model.specs.Lists.{Zone, Window}
-use Rattle.model.specs.Bytes.{Front, then, read_zone, read_window, read_all, read_section, byte}
+use Rattle.model.specs.Bytes.{Front, then, read_zone, read_window, read_all, read_section}
 use Rattle.record.specs.declared.NamePlace.{NamePlace}
 use Rattle.record.specs.declared.TimeZoneRead.TheVariants as Z
 use Rattle.record.specs.declared.DSTOffsetRead.TheVariants as W

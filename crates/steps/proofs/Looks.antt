@@ -15,7 +15,6 @@ use Rattle.model.specs.Clock as C
 use Rattle.model.specs.Handler.{lists_of}
 use Rattle.model.specs.Lookups.{ZoneNow}
 use Rattle.model.specs.Output.{mark_of, truth, name_or, copied_over}
-use Rattle.model.specs.Timer as T
 use Rattle.rtc.specs.declared.UtcTime.{UtcTime}
 use Rattle.rtc.specs.declared.UtcTime.TheVariants.{Reliable, LastKnown}
 use Rattle.rtc.specs.Meaning.{reading_of}

@@ -9,7 +9,6 @@ mod listing;
 mod store;
 mod text;
 
-
 // Standard input.
 const STDIN_FILENO: i32 = 0;
 

@@ -1,11 +1,8 @@
 -- `history::is_history` meets its contract: what is left from `at` on decides.
 use mathlib.Core.Path.{sym, ◌∙◌}
-use Prim.Native.Nat.{◌-◌}
 use native.Mathlib.Omega.{arith}
-use borrow.Author.Rules.{rules}
-use lib.ListN.{length}
 use Rattle.history.specs.Laws.{There}
-use Rattle.history.proofs.Reading.{Reading, begins, stops, goes_on_lem, ends, call_there}
+use Rattle.history.proofs.Reading.{begins, stops, goes_on_lem, ends, call_there}
 use Rattle.history.proofs.is_history.Goals as goal
 
 pub loop-at-init : goal.loop-at-init
@@ -18,7 +15,7 @@ returns-in-NoCall c =
 
 pub loop-at-smaller : goal.loop-at-smaller
 loop-at-smaller c =
-    let told :  There c.args.s.now c.loop-at.at c.in-Call.field-0 c.in-Call.field-1 c.in-Call.field-2 c.in-Call.next = call_there _ _ _ _ _ _ (sym c.call_at.ensures ∙ c.in-Call.is) in
+    let told : There c.args.s.now c.loop-at.at c.in-Call.field-0 c.in-Call.field-1 c.in-Call.field-2 c.in-Call.next = call_there _ _ _ _ _ _ (sym c.call_at.ensures ∙ c.in-Call.is) in
     let t = told in omega (arith, t.onward, t.within)
 
 pub loop-at-preserved : goal.loop-at-preserved

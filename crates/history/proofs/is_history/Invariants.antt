@@ -1,11 +1,7 @@
 -- `history::is_history` meets its contract: what is left from `at` on decides.
-use mathlib.Core.Path.{sym, ◌∙◌}
 use Prim.Native.Nat.{◌-◌}
-use native.Mathlib.Omega.{arith}
-use borrow.Author.Rules.{rules}
 use lib.ListN.{length}
-use Rattle.history.specs.Laws.{There}
-use Rattle.history.proofs.Reading.{Reading, begins, stops, goes_on_lem, ends, call_there}
+use Rattle.history.proofs.Reading.{Reading}
 use Rattle.history.proofs.is_history.Given as goal
 
 abbrev pub invariant-loop-at : goal.invariant-loop-at

@@ -1,5 +1,4 @@
 -- `local_time::at_moment` meets its contract.
-use borrow.Author.Rules.{rules}
 use mathlib.Core.Bool.{Bool, true, false, cond}
 use mathlib.Core.Option.{none, some}
 use mathlib.Core.Path.{◌≡◌, refl, ◌∙◌}
@@ -12,16 +11,16 @@ use Rattle.model.specs.LocalTime.{local_moment, local_time}
 use Rattle.local_time.proofs.at_moment.Goals as goal
 
 -- a list store decides, and none is a refusal
-with-lists : (utc : ℕ) (l : Lists) (there : Bool) → there ≡ true → answers (local_moment l utc) ≡ local_time (reliable utc) (cond there (some l) none)
+with_lists : (utc : ℕ) (l : Lists) (there : Bool) → there ≡ true → answers (local_moment l utc) ≡ local_time (reliable utc) (cond there (some l) none)
 unfolding local_time
-with-lists utc l there e = rw e refl
+with_lists utc l there e = rw e refl
 
 with_none : (utc : ℕ) (l : Lists) (there : Bool) → there ≡ false → refused AttributeNotFound ≡ local_time (reliable utc) (cond there (some l) none)
 unfolding local_time
 with_none utc l there e = rw e refl
 
 pub returns-then-there : goal.returns-then-there
-returns-then-there c = c.in_lists.ensures ∙ with-lists _ _ _ c.if-there.true
+returns-then-there c = c.in_lists.ensures ∙ with_lists _ _ _ c.if-there.true
 
 pub returns : goal.returns
 returns c = with_none _ _ _ c.if-there.false

@@ -1,5 +1,4 @@
 -- `local_time::in_lists` meets its contract.
-use borrow.Author.Rules.{rules}
 use mathlib.Core.Path.{sym, ◌∙◌}
 use Rattle.local_time.proofs.in_lists.Goals as goal
 

@@ -1,5 +1,4 @@
 -- `local_time::local_time` meets its contract: each arm is given which constructor the reading is.
-use borrow.Author.Rules.{rules}
 use mathlib.Core.Bool.{Bool, cond}
 use mathlib.Core.List.{List}
 use mathlib.Core.Option.{Option, none, some}

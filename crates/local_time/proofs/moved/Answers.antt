@@ -1,5 +1,4 @@
 -- `local_time::moved` meets its contract, arm by arm.
-use borrow.Author.Rules.{rules}
 use mathlib.Core.Path.{ap, ◌∙◌}
 use native.Mathlib.Omega.{arith}
 use Prim.Native.Nat.{◌-◌}

@@ -1,7 +1,6 @@
 -- The schedule program's text: a whole example, refusals by length, and the largest numbers.
-use Rattle.std.specs.Prelude.{[], ◌∷◌, ◌++◌, ◌≡◌, refl, ◌-◌, pos, neg_ℤ, replicate}
+use Rattle.std.specs.Prelude.{[], ◌∷◌, ◌++◌, ◌≡◌, refl, pos, neg_ℤ, replicate}
 use Rattle.model.specs.Basics.{top, keep, any, first, last, least_of, smallest}
-use Rattle.model.specs.Lists.{empty}
 use Rattle.model.specs.Rules.{demand, and_then, test_from, zone_rule, window_rule, test_zones, test_windows}
 use Rattle.model.specs.Bytes.{bytes, number, bits_of, signed, all_bytes, zones_bytes, windows_bytes, record_bytes, take_bytes, read_name, read_until, read_entry, read_all, read_record}
 use Rattle.model.specs.Lookups.{active_zone, active_window, active_offset, usable, zone_starts, window_bounds, next_transition}

@@ -10,7 +10,7 @@ use Rattle.model.specs.Bytes.{bytes, number, bits_of, signed, all_bytes, zones_b
 use Rattle.model.specs.History.{SetTimeZone, SetDSTOffset, Load, FactoryReset, verdict, after, lists_after}
 use Rattle.model.specs.Store.{Store, new, record_of, set_time_zone, set_dst_offset, load, factory_reset}
 use Rattle.model.specs.Output.{SizedCall, stored_by, no_space, after_sized}
-use Rattle.model.specs.Table.{zone, window, windows, hour}
+use Rattle.model.specs.Table.{zone, windows, hour}
 use Rattle.model.specs.Examples.Cases.{Gives, ◌gives◌}
 
 abbrev store : Lists → ℕ → Store

@@ -1,6 +1,5 @@
 -- `numbers::source_number` meets its contract: each arm is given which constructor `s` is, at which `source_number` computes.
 use mathlib.Core.Path.{sym, ap}
-use borrow.Author.Rules.{rules}
 use Rattle.model.specs.Numbers.{source_number}
 use Rattle.numbers.proofs.source_number.Goals as goal
 

@@ -1,5 +1,4 @@
 -- `readings::lists_refusal` meets its contract.
-use borrow.Author.Rules.{rules}
 use mathlib.Core.Path.{sym, ◌∙◌}
 use borrow.Author.Tests.{not-true, not-false}
 use Rattle.readings.specs.There.{lists_refusal}

@@ -4,7 +4,6 @@ use mathlib.Core.List.{List}
 use mathlib.Core.Path.{◌≡◌, refl, sym, ap, ◌∙◌}
 use Prim.Native.Nat.{ℕ, ◌+◌}
 use native.Mathlib.Omega.{arith}
-use borrow.Author.Rules.{rules}
 use lib.ListN.{length, take}
 use Rattle.model.specs.Lookups.{ZoneNow}
 use Rattle.model.specs.Output.{too_short, copied_over, moments_bytes, mark_of, name_or}
@@ -18,13 +17,13 @@ use Rattle.replay.proofs.Claimed.{no_moments_room, no_name_room, no_record_room,
 use Rattle.replay.proofs.answered.Goals as goal
 
 -- by whether the record was written
-was-short : (r short : Bool) → r ≡ not short → r ≡ false → short ≡ true
-was-short r true e f = refl
-was-short r false e f = let z : true ≡ false = sym e ∙ f in let k : ◌≡◌ {A = ℕ} 0 1 = cc in absurd (omega arith)
+was_short : (r short : Bool) → r ≡ not short → r ≡ false → short ≡ true
+was_short r true e f = refl
+was_short r false e f = let z : true ≡ false = sym e ∙ f in let k : ◌≡◌ {A = ℕ} 0 1 = cc in absurd (omega arith)
 
-was-long : (r short : Bool) → r ≡ not short → r ≡ true → short ≡ false
-was-long r false e f = refl
-was-long r true e f = let z : false ≡ true = sym e ∙ f in let k : ◌≡◌ {A = ℕ} 0 1 = cc in absurd (omega arith)
+was_long : (r short : Bool) → r ≡ not short → r ≡ true → short ≡ false
+was_long r false e f = refl
+was_long r true e f = let z : false ≡ true = sym e ∙ f in let k : ◌≡◌ {A = ℕ} 0 1 = cc in absurd (omega arith)
 
 module _ {A : Type 0} (x y : A) {r : Bool} where
   old : r ≡ false → cond r x y ≡ y
@@ -78,7 +77,7 @@ returns-then-record c =
     all_told t a.start a.at (length a.moments.now) (length a.name.now) (length a.out.now)
     (omega (arith, walked.long, c.if-moments-n.false))
     (omega (arith, name_long, c.if-name-shown.false))
-    (was-long c.record.result (too_short (length a.out.now) (record_of (store_in t))) c.record.ensures.0 f)
+    (was_long c.record.result (too_short (length a.out.now) (record_of (store_in t))) c.record.ensures.0 f)
     ) (record {
       number = refl;
       outputs = lent_parts
@@ -111,6 +110,6 @@ returns c =
     no_record_room t a.start a.at (length a.moments.now) (length a.name.now) (length a.out.now)
     (omega (arith, walked.long, c.if-moments-n.false))
     (omega (arith, name_long, c.if-name-shown.false))
-    (was-short c.record.result (too_short (length a.out.now) (record_of (store_in t))) c.record.ensures.0 f)
+    (was_short c.record.result (too_short (length a.out.now) (record_of (store_in t))) c.record.ensures.0 f)
     )
     (record { number = refl; outputs = lent_parts refl refl refl refl refl refl refl refl refl refl refl (c.record.ensures.1 ∙ old (copied_over (record_of (store_in t)) a.out.now) a.out.now f) (c.record.ensures.2 ∙ old (length (record_of (store_in t))) a.used.now f) refl })

@@ -1,6 +1,5 @@
 -- `rules::set_dst_offset` meets its contract.
 use mathlib.Core.Path.{◌≡◌, refl, sym, ◌∙◌}
-use borrow.Author.Rules.{rules}
 use lib.ListN.{length}
 use Rattle.model.specs.Bytes.{read_windows}
 use Rattle.record.specs.declared.SectionRead.TheVariants as S

@@ -1,6 +1,5 @@
 -- `rules::set_time_zone` meets its contract.
 use mathlib.Core.Path.{◌≡◌, refl, sym, ◌∙◌}
-use borrow.Author.Rules.{rules}
 use lib.ListN.{length}
 use Rattle.model.specs.Bytes.{read_zones}
 use Rattle.record.specs.declared.SectionRead.TheVariants as S

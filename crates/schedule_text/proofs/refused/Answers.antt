@@ -1,6 +1,5 @@
 -- `schedule_text::refused` meets its contract.
 use native.Mathlib.Omega.{arith}
-use borrow.Author.Rules.{rules}
 use Rattle.model.specs.Schedule.{refused7}
 use Rattle.word.proofs.Writes.{zeros, length_zeros}
 use Rattle.text.proofs.Runs.{no_word, word}

@@ -3,7 +3,6 @@ use mathlib.Core.List.{List}
 use mathlib.Core.Path.{◌≡◌, ap, ◌∙◌}
 use Prim.Native.Nat.{ℕ, ◌+◌, ◌-◌, ◌≤◌, ◌<◌}
 use native.Mathlib.Omega.{arith}
-use borrow.Author.Rules.{rules}
 use borrow.Author.Rules.{part_to_end}
 use lib.ListN.{length, take, drop, get_or, length-append, replicate}
 use lib.Seq.{get_or-drop}
@@ -16,36 +15,36 @@ use Rattle.schedule_text.proofs.Inputs.{too_short_lem, too_long, bad_record, goo
 use Rattle.schedule_text.proofs.schedule.Goals as goal
 
 -- the bytes after the moment
-rest-bytes : (s : List ℕ) → ((i : ℕ) → get_or s i 0 < 256) → AreBytes (take (length s - 8) (drop 8 s))
-rest-bytes s f = rw (part_to_end s 8) (are_bytes (drop 8 s) (λ i. rw get_or-drop (f (8 + i))))
+rest_bytes : (s : List ℕ) → ((i : ℕ) → get_or s i 0 < 256) → AreBytes (take (length s - 8) (drop 8 s))
+rest_bytes s f = rw (part_to_end s 8) (are_bytes (drop 8 s) (λ i. rw get_or-drop (f (8 + i))))
 
 -- a text lies in its bytes
-text-fits : (t : Text) (l : List ℕ) → t ≡ text_of l → t.length ≤ length t.bytes
+text_fits : (t : Text) (l : List ℕ) → t ≡ text_of l → t.length ≤ length t.bytes
 unfolding text_of
-text-fits t l e = omega (arith, ap (λ (x : Text). x.length) e, ap (λ (x : Text). length x.bytes) e, length-append l (replicate (2879 - length l) 0))
+text_fits t l e = omega (arith, ap (λ (x : Text). x.length) e, ap (λ (x : Text). length x.bytes) e, length-append l (replicate (2879 - length l) 0))
 
 pub returns-then-input-lt-MOMENT_SIZE : goal.returns-then-input-lt-MOMENT_SIZE
 returns-then-input-lt-MOMENT_SIZE c =
     let s = c.args.input.now in
-    record { says = c.refused.ensures ∙ ap text_of (too_short_lem s c.if-input-lt-MOMENT_SIZE.true); fits = text-fits _ refused7 c.refused.ensures }
+    record { says = c.refused.ensures ∙ ap text_of (too_short_lem s c.if-input-lt-MOMENT_SIZE.true); fits = text_fits _ refused7 c.refused.ensures }
 
 pub returns-then-input-gt-MOST_INPUT : goal.returns-then-input-gt-MOST_INPUT
 returns-then-input-gt-MOST_INPUT c =
     let s = c.args.input.now in
     record {
       says = c.refused-then-input-gt-MOST_INPUT.ensures ∙ ap text_of (too_long s c.if-input-gt-MOST_INPUT.true);
-      fits = text-fits _ refused7 c.refused-then-input-gt-MOST_INPUT.ensures;
+      fits = text_fits _ refused7 c.refused-then-input-gt-MOST_INPUT.ensures;
     }
 
 pub returns-in-TurnedDown : goal.returns-in-TurnedDown
 returns-in-TurnedDown c =
     let s = c.args.input.now in
     let said = bad_record s (omega (arith, c.if-input-lt-MOMENT_SIZE.false)) (omega (arith, c.if-input-gt-MOST_INPUT.false)) c.new.new.table c.new.ensures.1 (take (length s - 8) (drop 8 s)) (part_to_end s 8) c.load.result c.load.ensures.0 c.in-TurnedDown.field-0 c.in-TurnedDown.is in
-    record { says = c.refused-in-TurnedDown.ensures ∙ ap text_of said; fits = text-fits _ refused7 c.refused-in-TurnedDown.ensures }
+    record { says = c.refused-in-TurnedDown.ensures ∙ ap text_of said; fits = text_fits _ refused7 c.refused-in-TurnedDown.ensures }
 
 pub returns-in-Accepted : goal.returns-in-Accepted
 returns-in-Accepted c =
     let s = c.args.input.now in
     let said = good_record s (omega (arith, c.if-input-lt-MOMENT_SIZE.false)) (omega (arith, c.if-input-gt-MOST_INPUT.false)) c.new.new.table c.new.ensures.1 (take (length s - 8) (drop 8 s)) (part_to_end s 8) c.load.result c.load.ensures.0
-    c.in-Accepted.is (rest-bytes s (λ i. (c.type_inv.input i).fits)) c.load.new.table c.load.ensures.1 c.u64_at.result c.u64_at.ensures in
-    record { says = c.walked.ensures ∙ ap text_of said; fits = text-fits _ _ c.walked.ensures }
+    c.in-Accepted.is (rest_bytes s (λ i. (c.type_inv.input i).fits)) c.load.new.table c.load.ensures.1 c.u64_at.result c.u64_at.ensures in
+    record { says = c.walked.ensures ∙ ap text_of said; fits = text_fits _ _ c.walked.ensures }

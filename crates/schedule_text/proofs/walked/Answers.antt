@@ -3,7 +3,6 @@ use mathlib.Core.List.{List}
 use mathlib.Core.Path.{◌≡◌, ap, subst, ◌∙◌}
 use Prim.Native.Nat.{ℕ, suc, ◌+◌, ◌-◌, ◌≤◌}
 use native.Mathlib.Omega.{arith}
-use borrow.Author.Rules.{rules}
 use lib.ListN.{length, take, replicate, length-take, length-append, length-replicate}
 use Rattle.model.specs.Bytes.{all_bytes}
 use Rattle.model.specs.Walk as W
@@ -21,15 +20,15 @@ abbrev moments_of : Walk → List ℕ
 moments_of w = take (suc w.steps) w.moments
 
 -- no walk has more than 41 moments
-forty-one : (w : W.Walk) → length (walk_owned w).moments ≡ 41
-forty-one w =
+forty_one : (w : W.Walk) → length (walk_owned w).moments ≡ 41
+forty_one w =
     let ms = w.moments in
     length-append (take 41 ms) (replicate (41 - length ms) 0) ∙ omega (arith, length-take 41 ms, length-replicate {A = ℕ} (41 - length ms) 0)
 
 few : (s : List ℕ) (start : ℕ) → length (W.walk (lists_in s) start).moments ≤ 41
 few s start =
     let w = W.walk (lists_in s) start in
-    omega (arith, ap length (holds_the_walk s start), length-take (suc w.steps) (walk_owned w).moments, forty-one w)
+    omega (arith, ap length (holds_the_walk s start), length-take (suc w.steps) (walk_owned w).moments, forty_one w)
 
 pub put_lines-last-requires : goal.put_lines-last-requires
 put_lines-last-requires c = let p = c.put_word-first in lines_fit p.new.out p.result p.ensures

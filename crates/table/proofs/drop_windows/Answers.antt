@@ -1,5 +1,5 @@
 -- `drop_windows` meets its contract.
-use Rattle.std.proofs.Common.{ap, ◌∙◌, rules}
+use Rattle.std.proofs.Common.{ap, ◌∙◌}
 use Rattle.table.specs.Layout.{put_entries, with_windows, counted}
 use Rattle.table.proofs.drop_windows.Goals as goal
 

@@ -1,5 +1,5 @@
 -- `factory_reset` meets its contract.
-use Rattle.std.proofs.Common.{ℕ, List, [], ap, ◌∙◌, rules}
+use Rattle.std.proofs.Common.{ℕ, List, [], ap, ◌∙◌}
 use Rattle.table.specs.Layout.{put_entries, with_zones, with_windows, counted}
 use Rattle.table.specs.Left.{reset_left}
 use Rattle.table.proofs.factory_reset.Goals as goal

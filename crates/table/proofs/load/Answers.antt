@@ -1,5 +1,5 @@
 -- `load` meets its contract.
-use Rattle.std.proofs.Common.{◌≡◌, ℕ, ◌+◌, List, length, sym, ap, ◌∙◌, subst, arith, rules}
+use Rattle.std.proofs.Common.{◌≡◌, ℕ, ◌+◌, List, length, sym, ap, ◌∙◌, subst, arith}
 use Rattle.model.specs.Lists.{Zone}
 use Rattle.model.specs.Bytes.{zone_bytes, window_bytes, all_bytes, read_record}
 use Rattle.word.specs.Place.{byte_at}

@@ -1,5 +1,5 @@
 -- `new` meets its contract: both limits, and zeros behind them.
-use Rattle.std.proofs.Common.{◌≡◌, length, sym, ap, ◌∙◌, arith, rules}
+use Rattle.std.proofs.Common.{◌≡◌, length, sym, ap, ◌∙◌, arith}
 use Rattle.model.specs.Rules.{Rules, allowed}
 use Rattle.model.proofs.Stored.{Limits, limits}
 use Rattle.table.specs.Layout.{new_bytes, new_table}

@@ -1,5 +1,5 @@
 -- `set_dst_offset` meets its contract.
-use Rattle.std.proofs.Common.{◌≡◌, ℕ, true, false, sym, refl, ap, ◌∙◌, subst, rules}
+use Rattle.std.proofs.Common.{◌≡◌, ℕ, true, false, sym, refl, ap, ◌∙◌, subst}
 use Rattle.model.specs.declared.Refusal.TheVariants as R
 use Rattle.model.specs.Bytes.{window_bytes, read_windows}
 use Rattle.model.specs.RoundTrip.{AreBytes}

@@ -1,5 +1,5 @@
 -- `set_time_zone` meets its contract.
-use Rattle.std.proofs.Common.{◌≡◌, ℕ, ◌+◌, true, false, length, sym, refl, ap, ◌∙◌, subst, arith, rules, le-ltb, lt-ltb}
+use Rattle.std.proofs.Common.{◌≡◌, ℕ, ◌+◌, true, false, length, sym, refl, ap, ◌∙◌, subst, arith, le-ltb, lt-ltb}
 use Rattle.model.specs.declared.Refusal.TheVariants as R
 use Rattle.model.specs.Bytes.{zone_bytes, read_zones}
 use Rattle.model.specs.RoundTrip.{AreBytes}

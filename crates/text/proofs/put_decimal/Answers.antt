@@ -1,6 +1,5 @@
 -- `text::put_decimal` meets its contract: the digits are a word.
 use native.Mathlib.Omega.{arith}
-use borrow.Author.Rules.{rules}
 use lib.ListN.{replicate}
 use Rattle.model.specs.Schedule.{decimal}
 use Rattle.text.proofs.Digits.{decimal_length}

@@ -3,7 +3,6 @@ use mathlib.Core.List.{◌∷◌}
 use mathlib.Core.Path.{◌≡◌, ap, ◌∙◌}
 use Prim.Native.Nat.{ℕ}
 use native.Mathlib.Omega.{arith}
-use borrow.Author.Rules.{rules}
 use lib.ListN.{replicate}
 use mir.Syntax.{w32}
 use mir.Facts.{to_z-of_z}

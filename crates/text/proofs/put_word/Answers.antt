@@ -1,5 +1,5 @@
 -- `text::put_word` meets its contract: the word is copied over the part from its place on.
-use Rattle.std.proofs.Common.{◌≡◌, ℕ, ◌+◌, ◌-◌, ◌≤◌, List, ◌++◌, length, take, drop, sym, ap, ◌∙◌, arith, append_assoc, drop-drop}
+use Rattle.std.proofs.Common.{◌≡◌, ℕ, ◌+◌, ◌-◌, List, ◌++◌, length, take, drop, sym, ap, ◌∙◌, arith, append_assoc, drop-drop}
 use borrow.Rule.Slice.PartMut.{put_mid}
 use Rattle.word.specs.Place.{put}
 use Rattle.word.proofs.Places.{fitting}

@@ -1,6 +1,5 @@
 -- `time_sync_client::applied` meets its contract: the setting's reports always come, and its moment where it is due.
 use mathlib.Core.Path.{ap}
-use borrow.Author.Rules.{rules}
 use Rattle.time_sync_client.proofs.applied.Goals as goal
 
 pub returns : goal.returns

@@ -1,4 +1,3 @@
-
 use mathlib.Core.Path.{sym}
 use borrow.Author.Rules.{rules}
 use lib.Seq.{length-take-le}

@@ -1,8 +1,5 @@
 -- `word::copy` meets its contract.
-use mathlib.Core.Path.{◌≡◌, sym, ◌∙◌}
-use Prim.Native.Nat.{◌+◌, ◌≤◌}
-use borrow.Author.Rules.{rules}
-use lib.ListN.{length}
+use mathlib.Core.Path.{sym, ◌∙◌}
 use Rattle.word.proofs.Places.{fitting, copied_none, copied_is, copied_short}
 use Rattle.word.proofs.copy.Goals as goal
 

@@ -1,12 +1,12 @@
 -- `word::copy_bytes` meets its contract: the first `i` bytes are copied.
 use mathlib.Core.List.{[], ◌∷◌, ◌++◌}
 use mathlib.Core.Path.{◌≡◌, refl, sym, ap, ◌∙◌}
-use Prim.Native.Nat.{ℕ, ◌+◌, ◌-◌, ◌≤◌}
+use Prim.Native.Nat.{ℕ, ◌+◌}
 use native.Mathlib.Numerals.{add-one}
 use native.Mathlib.Omega.{arith}
 use lib.ListN.{length, take, drop, get_or, length-drop}
 use lib.Seq.{take-suc, length-take-le, get_or-drop}
-use Rattle.word.proofs.Writes.{Wrote, wrote_none, wrote_byte, wrote_as, same_length}
+use Rattle.word.proofs.Writes.{wrote_none, wrote_byte, wrote_as, same_length}
 use Rattle.word.proofs.copy_bytes.Goals as goal
 
 pub loop-i-init : goal.loop-i-init

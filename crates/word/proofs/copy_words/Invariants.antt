@@ -1,11 +1,7 @@
 -- `word::copy_words` meets its contract: the first `i` words are copied.
-use mathlib.Core.List.{List, ◌++◌}
-use mathlib.Core.Path.{◌≡◌, sym, ap, ◌∙◌}
-use Prim.Native.Nat.{ℕ, ◌+◌, ◌*◌, ◌-◌, ◌≤◌}
-use native.Mathlib.Omega.{arith}
-use lib.ListN.{length, take, drop, length-drop}
-use lib.Seq.{take-add, drop-drop, length-take-le}
-use Rattle.word.proofs.Writes.{Wrote, wrote_none, wrote_put, wrote_as, same_length}
+use Prim.Native.Nat.{◌*◌, ◌-◌, ◌≤◌}
+use lib.ListN.{take, drop}
+use Rattle.word.proofs.Writes.{Wrote}
 use Rattle.word.proofs.copy_words.Given as goal
 
 abbrev pub invariant-loop-i : goal.invariant-loop-i

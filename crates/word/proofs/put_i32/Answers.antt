@@ -1,7 +1,6 @@
 -- `word::put_i32` meets its contract.
 use mathlib.Core.Path.{ap, ◌∙◌}
 use Prim.Native.Nat.{ℕ}
-use borrow.Author.Rules.{rules}
 use mir.Syntax.{w32}
 use mir.Facts.{to_z-of_z}
 use Rattle.model.specs.Bytes.{bytes, bits_of}

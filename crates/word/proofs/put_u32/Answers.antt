@@ -1,6 +1,5 @@
 -- `word::put_u32` meets its contract.
 use mathlib.Core.Path.{sym, ◌∙◌}
-use borrow.Author.Rules.{rules}
 use Rattle.word.proofs.Places.{fitting, placed_is, placed_none}
 use Rattle.word.proofs.put_u32.Goals as goal
 

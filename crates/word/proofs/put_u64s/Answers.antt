@@ -1,7 +1,6 @@
 -- `word::put_u64s` meets its contract.
 use mathlib.Core.Path.{sym, ◌∙◌}
 use native.Mathlib.Omega.{arith}
-use borrow.Author.Rules.{rules}
 use Rattle.word.proofs.Writes.{numbers_there, numbers_few, numbers_short}
 use Rattle.word.proofs.put_u64s.Goals as goal
 

@@ -1,9 +1,8 @@
 -- `word::set` meets its contract.
-use Prim.Native.Nat.{◌-◌}
 use native.Mathlib.Omega.{arith}
 use lib.ListN.{length}
 use mathlib.Core.Path.{◌≡◌}
-use Rattle.word.proofs.Laws.{Sofar, start_set, turn_set, end_set, keeps}
+use Rattle.word.proofs.Laws.{start_set, turn_set, end_set, keeps}
 use Rattle.word.proofs.set.Goals as goal
 
 pub loop-i-init : goal.loop-i-init

@@ -1,9 +1,6 @@
 -- `word::set` meets its contract.
 use Prim.Native.Nat.{◌-◌}
-use native.Mathlib.Omega.{arith}
-use lib.ListN.{length}
-use mathlib.Core.Path.{◌≡◌}
-use Rattle.word.proofs.Laws.{Sofar, start_set, turn_set, end_set, keeps}
+use Rattle.word.proofs.Laws.{Sofar}
 use Rattle.word.proofs.set.Given as goal
 
 abbrev pub invariant-loop-i : goal.invariant-loop-i

@@ -1,7 +1,6 @@
 -- `word::u32_at` meets its contract.
 use mathlib.Core.Option.{some}
 use mathlib.Core.Path.{sym, ap, ◌∙◌}
-use borrow.Author.Rules.{rules}
 use Rattle.word.specs.Place.{maybe_u32}
 use Rattle.word.proofs.Places.{fitting, number_is, number_none}
 use Rattle.word.proofs.u32_at.Goals as goal

@@ -1,7 +1,6 @@
 -- `word::u64_at` meets its contract.
 use mathlib.Core.Option.{some}
 use mathlib.Core.Path.{sym, ap, ◌∙◌}
-use borrow.Author.Rules.{rules}
 use Rattle.model.specs.Maybe.{maybe_u64}
 use Rattle.word.proofs.Places.{fitting, number_is, number_none}
 use Rattle.word.proofs.u64_at.Goals as goal

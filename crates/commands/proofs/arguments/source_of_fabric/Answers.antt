@@ -2,7 +2,6 @@
 use mathlib.Core.Path.{◌∙◌}
 use lib.Dec.{eqb}
 use Rattle.commands.proofs.Says.{named_source}
-use borrow.Author.Rules.{rules}
 use Rattle.commands.proofs.arguments.source_of_fabric.Goals as goal
 
 pub returns : goal.returns

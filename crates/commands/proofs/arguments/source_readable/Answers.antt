@@ -1,6 +1,5 @@
 -- `arguments::source_readable` meets its contract.
 use borrow.Author.Tests.{eq-eqb, ne_eqb}
-use borrow.Author.Rules.{rules}
 use Rattle.commands.proofs.arguments.source_readable.Goals as goal
 
 pub returns-then-mark-eq0 : goal.returns-then-mark-eq0

@@ -12,7 +12,6 @@ use Rattle.model.specs.Clock.{Clock}
 use Rattle.image.specs.Asked.{given}
 use Rattle.commands.specs.Calls.{clock_loaded, source_by}
 use Rattle.commands.proofs.Says.{Says, refusal_says, on_image, off_image, load_refused, load_taken_lem}
-use borrow.Author.Rules.{rules}
 use borrow.Author.Tests.{not-true, not-false}
 use Rattle.commands.proofs.clock.load_clock.Goals as goal
 

@@ -11,7 +11,6 @@ use Rattle.model.specs.Clock.{Clock}
 use Rattle.image.specs.Parts.{with_clock}
 use Rattle.commands.specs.Calls.{clock_reset}
 use Rattle.commands.proofs.Says.{Says, refusal_says, on_image, off_image}
-use borrow.Author.Rules.{rules}
 use borrow.Author.Tests.{not-true, not-false}
 use Rattle.commands.proofs.clock.reset_clock.Goals as goal
 

@@ -6,7 +6,6 @@ use Rattle.model.specs.Codes.{returned}
 use Rattle.model.specs.Clock as C
 use Rattle.model.specs.Clock.{Clock}
 use Rattle.commands.proofs.Says.{set_tells}
-use borrow.Author.Rules.{rules}
 use Rattle.commands.proofs.clock.rtc_set.Goals as goal
 
 pub returns : goal.returns

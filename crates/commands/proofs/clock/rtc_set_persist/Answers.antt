@@ -4,7 +4,6 @@ use Rattle.image.specs.Parts.{device_in}
 use Rattle.model.specs.Clock as C
 use Rattle.model.specs.Clock.{Clock}
 use Rattle.commands.proofs.Says.{persist_tells}
-use borrow.Author.Rules.{rules}
 use Rattle.commands.proofs.clock.rtc_set_persist.Goals as goal
 
 pub returns : goal.returns

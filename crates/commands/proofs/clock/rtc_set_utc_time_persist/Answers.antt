@@ -8,7 +8,6 @@ use Rattle.model.specs.Clock.{Persisted}
 use Rattle.model.specs.Output.{truth}
 use Rattle.commands.specs.Calls.{set_by, clock_set_persist}
 use Rattle.commands.proofs.Says.{Tells, refusal_tells, on_image, off_image, no_granularity, no_source, both_read}
-use borrow.Author.Rules.{rules}
 use borrow.Author.Tests.{not-true, not-false}
 use Rattle.commands.proofs.clock.rtc_set_utc_time_persist.Goals as goal
 

@@ -9,7 +9,6 @@ use Rattle.model.specs.Answers.{TrustedSource}
 use Rattle.commands.specs.Calls.{source_set, named_by}
 use Rattle.commands.specs.Taken.{source_taken}
 use Rattle.commands.proofs.Says.{Says, refusal_says, on_image, off_image, fabric_there}
-use borrow.Author.Rules.{rules}
 use Rattle.commands.proofs.clock.set_trusted_time_source.Goals as goal
 
 pub returns-then-fab_idx-eq0 : goal.returns-then-fab_idx-eq0

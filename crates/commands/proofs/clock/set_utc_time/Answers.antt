@@ -7,7 +7,6 @@ use Rattle.model.specs.Numbers.{option_granularity}
 use Rattle.image.specs.Asked.{given}
 use Rattle.commands.specs.Calls.{utc_time_set}
 use Rattle.commands.proofs.Says.{Says, refusal_says, on_image, off_image, source_unread, granularity_unread, utc_read}
-use borrow.Author.Rules.{rules}
 use borrow.Author.Tests.{not-true, not-false}
 use Rattle.commands.proofs.clock.set_utc_time.Goals as goal
 

@@ -8,7 +8,6 @@ use Rattle.model.specs.Clock.{Clock}
 use Rattle.model.specs.Answers.{wake_client}
 use Rattle.rtc.specs.Meaning.{option_source}
 use Rattle.image.specs.Parts.{with_clock}
-use borrow.Author.Rules.{rules}
 use Rattle.commands.proofs.clock.source_taken.Goals as goal
 
 pub returns : goal.returns

@@ -14,7 +14,6 @@ use Rattle.table.specs.Layout.{store_in}
 use Rattle.image.specs.Layout.{table_in}
 use Rattle.image.specs.Parts.{has_lists, with_clock}
 use Rattle.commands.proofs.Says.{is_there}
-use borrow.Author.Rules.{rules}
 use Rattle.commands.proofs.clock.utc_time_taken.Goals as goal
 
 pub returns : goal.returns

@@ -1,11 +1,6 @@
 -- `codes::dst_offset_refused` meets its contract.
 use mathlib.Core.Bool.{Bool, false}
-use mathlib.Core.List.{List, [], ◌∷◌}
-use mathlib.Core.Path.{◌≡◌, refl, sym, ap, ◌∙◌}
-use Prim.Native.Nat.{ℕ}
-use borrow.Author.Rules.{rules}
-use denote.Enum.Declared.{tag_of}
-use types.Run.{OneOf, miss}
+use mathlib.Core.Path.{◌≡◌, refl, ap, ◌∙◌}
 use Rattle.model.specs.declared.Refusal.{Refusal}
 use Rattle.model.specs.declared.Refusal.TheVariants as R
 use Rattle.model.specs.Numbers.{refusal_number}

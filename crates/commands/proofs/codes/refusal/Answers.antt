@@ -1,6 +1,5 @@
 -- `codes::refusal` meets its contract.
 use Rattle.commands.proofs.Says.{refusal_alone}
-use borrow.Author.Rules.{rules}
 use Rattle.commands.proofs.codes.refusal.Goals as goal
 
 pub returns : goal.returns

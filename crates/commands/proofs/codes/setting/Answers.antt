@@ -1,5 +1,4 @@
 -- `codes::setting` meets its contract.
-use borrow.Author.Rules.{rules}
 use Rattle.model.specs.Bytes.{number}
 use Rattle.model.specs.Codes.{returned}
 use Rattle.commands.proofs.codes.setting.Goals as goal

@@ -1,7 +1,6 @@
 -- `codes::trusted_source` meets its contract.
 use Rattle.model.specs.Bytes.{number}
 use Rattle.model.specs.Codes.{returned}
-use borrow.Author.Rules.{rules}
 use Rattle.commands.proofs.codes.trusted_source.Goals as goal
 
 pub returns-in-Same : goal.returns-in-Same

@@ -1,6 +1,5 @@
 -- `lists::lists_loaded` meets its contract.
-use mathlib.Core.Path.{◌≡◌, sym, ap, ◌∙◌}
-use borrow.Author.Rules.{rules}
+use mathlib.Core.Path.{sym, ap, ◌∙◌}
 use Rattle.model.specs.Answers.{number_of, Result}
 use Rattle.model.specs.Codes.{returned}
 use Rattle.model.specs.Rules as R

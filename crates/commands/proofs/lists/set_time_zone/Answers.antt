@@ -2,13 +2,11 @@
 use mathlib.Core.Bool.{true}
 use mathlib.Core.Path.{◌≡◌, sym, ap, ◌∙◌}
 use native.Mathlib.Omega.{arith}
-use borrow.Author.Rules.{rules}
 use borrow.Author.Tests.{not-true, not-false}
 use lib.ListN.{length}
 use Rattle.model.specs.Store as M
 use Rattle.model.specs.Store.{Store}
 use Rattle.model.specs.Handler as H
-use Rattle.table.specs.Layout.{table_size}
 use Rattle.table.specs.Left.{time_zone_left}
 use Rattle.table.proofs.Follows.{lengths_stay}
 use Rattle.image.specs.Layout.{is_image, table_in}

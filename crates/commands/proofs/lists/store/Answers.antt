@@ -1,7 +1,6 @@
 -- `lists::store` meets its contract.
 use mathlib.Core.Path.{◌∙◌}
 use native.Mathlib.Omega.{arith}
-use borrow.Author.Rules.{rules}
 use Rattle.model.specs.Bytes.{record_bytes}
 use Rattle.model.specs.Store.{record_of}
 use Rattle.word.proofs.Writes.{copied_front}

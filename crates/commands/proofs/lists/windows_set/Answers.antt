@@ -4,24 +4,21 @@ use mathlib.Core.List.{List}
 use mathlib.Core.Path.{◌≡◌, refl, sym, ap, subst, ◌∙◌}
 use Prim.Native.Nat.{ℕ, ◌≤◌}
 use native.Mathlib.Omega.{arith}
-use borrow.Author.Rules.{rules}
 use lib.ListN.{length}
-use Rattle.model.specs.declared.Refusal.{Refusal}
 use Rattle.model.specs.Bytes.{number, record_bytes}
 use Rattle.model.specs.Basics.{when}
-use Rattle.model.specs.Answers.{wake_timer, Result}
+use Rattle.model.specs.Answers.{wake_timer}
 use Rattle.model.specs.Codes.{returned}
 use Rattle.model.specs.Output.{stores}
 use Rattle.model.specs.RoundTrip.{AreBytes}
-use Rattle.model.specs.Store.{Store}
 use Rattle.rules.specs.declared.Verdict.{Verdict}
 use Rattle.rules.specs.declared.Verdict.TheVariants as Said
 use Rattle.table.specs.Layout.{table_size, lists_in}
 use Rattle.table.specs.Left.{empties, dst_offset_said, dst_offset_left}
 use Rattle.table.proofs.Requests.{are_bytes}
 use Rattle.table.proofs.Follows.{lengths_stay}
-use Rattle.commands.specs.Taken.{storing_by, windows_by}
-use Rattle.commands.proofs.Told.{Stored, none_stored, one_stored}
+use Rattle.commands.specs.Taken.{windows_by}
+use Rattle.commands.proofs.Told.{none_stored, one_stored}
 use Rattle.commands.proofs.Verdicts.{windows_told, windows_told_lem, windows_lists, windows_roomy}
 use Rattle.commands.proofs.lists.windows_set.Goals as goal
 
@@ -34,7 +31,7 @@ woken false = refl
 pub store-requires : goal.store-requires
 store-requires c =
     let bytes : AreBytes c.args.request.now = are_bytes c.args.request.now (λ i. (c.type_inv.request i).fits) in
-    let accepted :  let a = c.args in dst_offset_said a.table.now a.request.now (length a.out.now) ≡ Said.Accepted = sym c.set_dst_offset.ensures.0 ∙ c.in-Accepted.is in
+    let accepted : let a = c.args in dst_offset_said a.table.now a.request.now (length a.out.now) ≡ Said.Accepted = sym c.set_dst_offset.ensures.0 ∙ c.in-Accepted.is in
     let a = c.args in
     let t = a.table.now in
     let b = a.request.now in
@@ -66,7 +63,7 @@ returns-in-Accepted c =
     let told : (v : Verdict) → c.set_dst_offset.result ≡ v → let a = c.args in windows_by a.table.now a.request.now (length a.out.now) ≡ windows_told a.table.now a.request.now (length a.out.now) v = λ v e. let a = c.args in
     windows_told_lem a.table.now a.request.now (length a.out.now) c.requires bytes
     ∙ ap (windows_told a.table.now a.request.now (length a.out.now)) (sym c.set_dst_offset.ensures.0 ∙ e) in
-    let accepted :  let a = c.args in dst_offset_said a.table.now a.request.now (length a.out.now) ≡ Said.Accepted = sym c.set_dst_offset.ensures.0 ∙ c.in-Accepted.is in
+    let accepted : let a = c.args in dst_offset_said a.table.now a.request.now (length a.out.now) ≡ Said.Accepted = sym c.set_dst_offset.ensures.0 ∙ c.in-Accepted.is in
     let a = c.args in
     let t = a.table.now in
     let b = a.request.now in

@@ -1,33 +1,28 @@
 -- `lists::zones_set` meets its contract.
-use mathlib.Core.Bool.{Bool, true, false}
 use mathlib.Core.List.{List}
 use mathlib.Core.Path.{◌≡◌, refl, sym, ap, subst, ◌∙◌}
 use Prim.Native.Nat.{ℕ, ◌≤◌}
 use native.Mathlib.Omega.{arith}
-use borrow.Author.Rules.{rules}
 use lib.ListN.{length}
-use Rattle.model.specs.declared.Refusal.{Refusal}
 use Rattle.model.specs.Bytes.{number, record_bytes}
-use Rattle.model.specs.Answers.{Result}
 use Rattle.model.specs.Codes.{returned}
 use Rattle.model.specs.Output.{stores}
 use Rattle.model.specs.RoundTrip.{AreBytes}
-use Rattle.model.specs.Store.{Store}
 use Rattle.rules.specs.declared.Verdict.{Verdict}
 use Rattle.rules.specs.declared.Verdict.TheVariants as Said
 use Rattle.table.specs.Layout.{table_size, lists_in}
 use Rattle.table.specs.Left.{time_zone_said, time_zone_left}
 use Rattle.table.proofs.Requests.{are_bytes}
 use Rattle.table.proofs.Follows.{lengths_stay}
-use Rattle.commands.specs.Taken.{storing_by, zones_by}
-use Rattle.commands.proofs.Told.{Stored, none_stored, one_stored}
+use Rattle.commands.specs.Taken.{zones_by}
+use Rattle.commands.proofs.Told.{none_stored, one_stored}
 use Rattle.commands.proofs.Verdicts.{zones_told, zones_told_lem, zones_lists, zones_roomy}
 use Rattle.commands.proofs.lists.zones_set.Goals as goal
 
 pub store-requires : goal.store-requires
 store-requires c =
     let bytes : AreBytes c.args.request.now = are_bytes c.args.request.now (λ i. (c.type_inv.request i).fits) in
-    let accepted :  let a = c.args in time_zone_said a.table.now a.request.now (length a.out.now) ≡ Said.Accepted = sym c.set_time_zone.ensures.0 ∙ c.in-Accepted.is in
+    let accepted : let a = c.args in time_zone_said a.table.now a.request.now (length a.out.now) ≡ Said.Accepted = sym c.set_time_zone.ensures.0 ∙ c.in-Accepted.is in
     let a = c.args in
     let t = a.table.now in
     let b = a.request.now in
@@ -58,7 +53,7 @@ returns-in-Accepted c =
     let told : (v : Verdict) → c.set_time_zone.result ≡ v → let a = c.args in zones_by a.table.now a.request.now (length a.out.now) ≡ zones_told a.table.now a.request.now (length a.out.now) v = λ v e. let a = c.args in
     zones_told_lem a.table.now a.request.now (length a.out.now)
     ∙ ap (zones_told a.table.now a.request.now (length a.out.now)) (sym c.set_time_zone.ensures.0 ∙ e) in
-    let accepted :  let a = c.args in time_zone_said a.table.now a.request.now (length a.out.now) ≡ Said.Accepted = sym c.set_time_zone.ensures.0 ∙ c.in-Accepted.is in
+    let accepted : let a = c.args in time_zone_said a.table.now a.request.now (length a.out.now) ≡ Said.Accepted = sym c.set_time_zone.ensures.0 ∙ c.in-Accepted.is in
     let a = c.args in
     let t = a.table.now in
     let b = a.request.now in

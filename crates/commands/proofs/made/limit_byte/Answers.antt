@@ -1,6 +1,5 @@
 -- `made::limit_byte` meets its contract.
 use borrow.Author.Tests.{le-leb, lt-leb}
-use borrow.Author.Rules.{rules}
 use Rattle.commands.proofs.made.limit_byte.Goals as goal
 
 pub returns-then-n-le-MOST_WINDOWS : goal.returns-then-n-le-MOST_WINDOWS

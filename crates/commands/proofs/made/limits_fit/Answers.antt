@@ -1,5 +1,4 @@
 -- `made::limits_fit` meets its contract.
-use borrow.Author.Rules.{rules}
 use Rattle.commands.proofs.made.limits_fit.Goals as goal
 
 pub returns-then-there : goal.returns-then-there

@@ -1,5 +1,4 @@
 -- `made::makes` meets its contract.
-use borrow.Author.Rules.{rules}
 use Rattle.commands.proofs.made.makes.Goals as goal
 
 pub returns-then-limits_fit : goal.returns-then-limits_fit

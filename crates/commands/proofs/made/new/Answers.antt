@@ -4,7 +4,6 @@ use mathlib.Core.Bool.{true, false, not}
 use lib.Dec.{eqb}
 use Rattle.commands.specs.Calls.{makes, new}
 use Rattle.commands.proofs.Says.{new_limits}
-use borrow.Author.Rules.{rules}
 use borrow.Author.Tests.{not-true, not-false}
 use Rattle.commands.proofs.made.new.Goals as goal
 

@@ -1,5 +1,4 @@
 -- `image::parts::client_at` meets its contract.
-use borrow.Author.Rules.{rules}
 use Rattle.image.proofs.parts.client_at.Goals as goal
 
 pub returns : goal.returns

@@ -1,5 +1,4 @@
 -- `image::parts::maybe_at` meets its contract.
-use borrow.Author.Rules.{rules}
 use Rattle.image.proofs.parts.maybe_at.Goals as goal
 
 pub returns-then-mark_at : goal.returns-then-mark_at

@@ -1,5 +1,4 @@
 -- `image::parts::put_bytes` meets its contract.
-use borrow.Author.Rules.{rules}
 use mathlib.Core.List.{[], ◌∷◌}
 use native.Mathlib.Omega.{arith}
 use lib.ListN.{set, length-set}

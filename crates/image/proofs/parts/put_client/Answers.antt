@@ -1,5 +1,4 @@
 -- `image::parts::put_client` meets its contract.
-use borrow.Author.Rules.{rules}
 use mathlib.Core.Path.{◌∙◌}
 use Rattle.time_sync_client.specs.Meaning.{client_of}
 use Rattle.word.proofs.Places.{fitting}

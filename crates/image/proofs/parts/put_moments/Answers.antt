@@ -1,5 +1,4 @@
 -- `image::parts::put_moments` meets its contract.
-use borrow.Author.Rules.{rules}
 use Rattle.image.proofs.Written.{wrote_four}
 use Rattle.image.proofs.parts.put_moments.Goals as goal
 

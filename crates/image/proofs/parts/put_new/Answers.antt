@@ -1,5 +1,4 @@
 -- `image::parts::put_new` meets its contract.
-use borrow.Author.Rules.{rules}
 use mathlib.Core.Path.{◌∙◌}
 use Rattle.word.proofs.Places.{fitting}
 use Rattle.image.specs.Layout.{image_size, magic_place}

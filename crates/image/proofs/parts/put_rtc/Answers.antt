@@ -1,5 +1,4 @@
 -- `image::parts::put_rtc` meets its contract.
-use borrow.Author.Rules.{rules}
 use mathlib.Core.Path.{◌∙◌}
 use Rattle.rtc.specs.Meaning.{clock_of}
 use Rattle.word.proofs.Places.{fitting}

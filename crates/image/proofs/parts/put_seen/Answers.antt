@@ -1,5 +1,4 @@
 -- `image::parts::put_seen` meets its contract.
-use borrow.Author.Rules.{rules}
 use mathlib.Core.Path.{◌∙◌}
 use Rattle.transition_timer.specs.Meaning.{timer_of}
 use Rattle.word.proofs.Places.{fitting}

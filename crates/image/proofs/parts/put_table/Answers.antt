@@ -1,9 +1,8 @@
 -- `image::parts::put_table` meets its contract.
-use borrow.Author.Rules.{rules}
-use mathlib.Core.Path.{◌≡◌, sym, ap, ◌∙◌}
+use mathlib.Core.Path.{◌≡◌, ap, ◌∙◌}
 use native.Mathlib.Omega.{arith}
 use borrow.Rule.Slice.PartMut.{put_mid}
-use lib.ListN.{length, take, drop, length-take, length-drop}
+use lib.ListN.{length, length-take, length-drop}
 use Rattle.model.specs.Rules.{Rules}
 use Rattle.word.proofs.Places.{placed_there}
 use Rattle.table.specs.Layout.{table_size, new_bytes, new_table}

@@ -1,6 +1,5 @@
 -- `image::parts::source_at` meets its contract.
 use mathlib.Core.Path.{sym}
-use borrow.Author.Rules.{rules}
 use Rattle.image.proofs.parts.source_at.Goals as goal
 
 pub returns-in-Is : goal.returns-in-Is

@@ -1,5 +1,4 @@
 -- `image::parts::trusted_at` meets its contract.
-use borrow.Author.Rules.{rules}
 use Rattle.image.proofs.parts.trusted_at.Goals as goal
 
 pub returns-then-mark_at : goal.returns-then-mark_at

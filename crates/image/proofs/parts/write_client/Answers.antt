@@ -1,5 +1,4 @@
 -- `image::parts::write_client` meets its contract.
-use borrow.Author.Rules.{rules}
 use mathlib.Core.List.{List, [], ◌∷◌, ◌++◌, append_assoc}
 use mathlib.Core.Path.{ap, ◌∙◌}
 use Prim.Native.Nat.{ℕ, ◌+◌}

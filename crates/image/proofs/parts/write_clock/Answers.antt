@@ -1,5 +1,4 @@
 -- `image::parts::write_clock` meets its contract.
-use borrow.Author.Rules.{rules}
 use mathlib.Core.List.{[], ◌∷◌}
 use Prim.Native.Nat.{◌+◌}
 use native.Mathlib.Omega.{arith}

@@ -1,6 +1,5 @@
 -- `image::parts::write_new` meets its contract.
-use borrow.Author.Rules.{rules}
-use mathlib.Core.List.{[], ◌∷◌, ◌++◌}
+use mathlib.Core.List.{[], ◌∷◌}
 use mathlib.Core.Path.{ap, ◌∙◌}
 use Prim.Native.Nat.{ℕ}
 use native.Mathlib.Omega.{arith}
@@ -13,8 +12,6 @@ use Rattle.table.specs.Layout as T
 use Rattle.image.specs.Layout.{magic_place, store_place, clock_place, client_place, table_place}
 use Rattle.image.specs.Parts.{limit_of, clock_bytes, client_bytes, new_bytes}
 use Rattle.image.proofs.Written.{new_front, length_front, length_table, front_and, wrote_front}
-use Rattle.rtc.proofs.Rtc.new.Reads as Rtc-new-reads
-use Rattle.time_sync_client.proofs.TimeSyncClient.new.Reads as TimeSyncClient-new-reads
 use Rattle.image.proofs.parts.write_new.Goals as goal
 
 pub put_table-requires : goal.put_table-requires

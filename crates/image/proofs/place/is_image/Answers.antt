@@ -1,5 +1,4 @@
 -- `image::place::is_image` meets its contract.
-use borrow.Author.Rules.{rules}
 use borrow.Author.Tests.{le-leb, lt-leb}
 use Rattle.image.specs.Layout.{is_image}
 use Rattle.image.proofs.place.is_image.Goals as goal

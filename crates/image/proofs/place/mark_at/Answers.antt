@@ -1,5 +1,4 @@
 -- `image::place::mark_at` meets its contract.
-use borrow.Author.Rules.{rules}
 use Rattle.image.proofs.place.mark_at.Goals as goal
 
 pub returns : goal.returns

@@ -1,7 +1,6 @@
 -- `lookups::held::u64_at` meets its contract.
 use mathlib.Core.Path.{sym, ◌∙◌}
 use native.Mathlib.Omega.{arith}
-use borrow.Author.Rules.{rules}
 use Rattle.word.proofs.Spelling.{eight, word_there}
 use Rattle.lookups.proofs.held.u64_at.Goals as goal
 

@@ -1,6 +1,5 @@
 -- `lookups::transitions::end_or_zero` meets its contract.
 use mathlib.Core.Path.{sym, ◌∙◌, ap}
-use borrow.Author.Rules.{rules}
 use Rattle.model.specs.declared.MaybeU64.{MaybeU64}
 use Rattle.lookups.specs.Transitions.{end_or_zero}
 use Rattle.lookups.proofs.transitions.end_or_zero.Goals as goal

@@ -2,7 +2,6 @@
 use mathlib.Core.List.{◌++◌}
 use mathlib.Core.Path.{sym, ◌∙◌, ap}
 use Prim.Native.Nat.{ℕ}
-use borrow.Author.Rules.{rules}
 use Rattle.model.specs.Lookups.{next_transition, zone_starts, window_bounds}
 use Rattle.lookups.specs.Transitions.{soonest, moment_of}
 use Rattle.lookups.proofs.Soonest.{soonest_append, soonest_smallest}

@@ -1,10 +1,8 @@
 -- `lookups::transitions::walk` meets its contract: what was walked, before the walk that is left, is the whole walk.
-use Prim.Native.Nat.{◌≤◌, ◌-◌}
 use native.Mathlib.Omega.{arith}
-use borrow.Author.Rules.{rules}
 use Rattle.model.specs.declared.MaybeU64.{MaybeU64}
 use Rattle.model.specs.Lookups.{next_transition}
-use Rattle.lookups.proofs.Walked.{few_boundaries, Sofar, sofar_start, sofar_more, sofar_end, sofar_full}
+use Rattle.lookups.proofs.Walked.{few_boundaries, sofar_start, sofar_more, sofar_end, sofar_full}
 use Rattle.table.specs.Layout.{lists_in}
 use Rattle.lookups.proofs.Views.{said, few_zones, few_windows}
 use Rattle.lookups.proofs.transitions.walk.Goals as goal

@@ -1,12 +1,7 @@
 -- `lookups::transitions::walk` meets its contract: what was walked, before the walk that is left, is the whole walk.
 use Prim.Native.Nat.{◌≤◌, ◌-◌}
-use native.Mathlib.Omega.{arith}
-use borrow.Author.Rules.{rules}
-use Rattle.model.specs.declared.MaybeU64.{MaybeU64}
-use Rattle.model.specs.Lookups.{next_transition}
-use Rattle.lookups.proofs.Walked.{few_boundaries, Sofar, sofar_start, sofar_more, sofar_end, sofar_full}
+use Rattle.lookups.proofs.Walked.{Sofar}
 use Rattle.table.specs.Layout.{lists_in}
-use Rattle.lookups.proofs.Views.{said, few_zones, few_windows}
 use Rattle.lookups.proofs.transitions.walk.Given as goal
 
 abbrev pub invariant-loop-steps : goal.invariant-loop-steps

@@ -1,14 +1,14 @@
 -- `lookups::transitions::window_transition` meets its contract.
 use mathlib.Core.List.{List}
-use mathlib.Core.Path.{◌≡◌, sym, ◌∙◌, ap}
-use Prim.Native.Nat.{ℕ, ◌+◌, ◌-◌, ◌≤◌}
+use mathlib.Core.Path.{sym, ◌∙◌, ap}
+use Prim.Native.Nat.{ℕ, ◌+◌}
 use native.Mathlib.Omega.{arith}
 use borrow.Author.Rules.{rules}
 use Rattle.model.specs.Lists.{Window}
 use Rattle.model.specs.Lookups.{window_bounds}
 use Rattle.word.specs.Place.{word_at}
 use Rattle.lookups.specs.Transitions.{sooner, soonest}
-use Rattle.table.specs.Layout.{window_count, entries_from, windows_in}
+use Rattle.table.specs.Layout.{window_count, windows_in}
 use Rattle.table.proofs.Counts.{WindowStands, window_stands}
 use Rattle.lookups.proofs.Entries.{whole}
 use Rattle.lookups.proofs.Soonest.{past_window, windows_over}

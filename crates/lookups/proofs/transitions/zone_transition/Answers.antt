@@ -1,14 +1,14 @@
 -- `lookups::transitions::zone_transition` meets its contract.
 use mathlib.Core.List.{List}
-use mathlib.Core.Path.{◌≡◌, sym, ◌∙◌, ap}
-use Prim.Native.Nat.{ℕ, ◌+◌, ◌-◌, ◌≤◌}
+use mathlib.Core.Path.{sym, ◌∙◌, ap}
+use Prim.Native.Nat.{ℕ, ◌+◌}
 use native.Mathlib.Omega.{arith}
 use borrow.Author.Rules.{rules}
 use Rattle.model.specs.Lists.{Zone}
 use Rattle.model.specs.Lookups.{zone_starts}
 use Rattle.word.specs.Place.{word_at}
 use Rattle.lookups.specs.Transitions.{sooner, soonest}
-use Rattle.table.specs.Layout.{zone_count, entries_from, zones_in}
+use Rattle.table.specs.Layout.{zone_count, zones_in}
 use Rattle.table.proofs.Counts.{ZoneStands, zone_stands}
 use Rattle.lookups.proofs.Entries.{whole}
 use Rattle.lookups.proofs.Soonest.{past_zone, zones_over}

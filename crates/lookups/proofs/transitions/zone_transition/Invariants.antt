@@ -1,22 +1,14 @@
 -- `lookups::transitions::zone_transition` meets its contract.
-use mathlib.Core.List.{List}
-use mathlib.Core.Path.{◌≡◌, sym, ◌∙◌, ap}
-use Prim.Native.Nat.{ℕ, ◌+◌, ◌-◌, ◌≤◌}
-use native.Mathlib.Omega.{arith}
-use borrow.Author.Rules.{rules}
-use Rattle.model.specs.Lists.{Zone}
+use mathlib.Core.Path.{◌≡◌}
+use Prim.Native.Nat.{◌-◌, ◌≤◌}
 use Rattle.model.specs.Lookups.{zone_starts}
-use Rattle.word.specs.Place.{word_at}
-use Rattle.lookups.specs.Transitions.{sooner, soonest}
+use Rattle.lookups.specs.Transitions.{soonest}
 use Rattle.table.specs.Layout.{zone_count, entries_from, zones_in}
-use Rattle.table.proofs.Counts.{ZoneStands, zone_stands}
-use Rattle.lookups.proofs.Entries.{whole}
-use Rattle.lookups.proofs.Soonest.{past_zone, zones_over}
 use Rattle.lookups.proofs.Views.{zone_with_index}
 use Rattle.lookups.proofs.transitions.zone_transition.Given as goal
 
 abbrev pub invariant-loop-i : goal.invariant-loop-i
-invariant-loop-i l = 
+invariant-loop-i l =
     (l.n ≡ zone_count l.table) × (l.i ≤ l.n) ×
     (soonest l.utc 0 (zone_starts (zones_in l.table)) ≡ soonest l.utc l.best (zone_starts (entries_from (zone_with_index l.table) l.i (l.n - l.i))))
 

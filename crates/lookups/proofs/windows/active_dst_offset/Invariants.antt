@@ -1,17 +1,9 @@
 -- `lookups::windows::active_dst_offset` meets its contract.
-use mathlib.Core.List.{List}
-use mathlib.Core.Option.{Option}
-use mathlib.Core.Path.{◌≡◌, sym, ◌∙◌, ap}
+use mathlib.Core.Path.{◌≡◌}
 use Prim.Native.Nat.{◌-◌, ◌≤◌}
-use native.Mathlib.Omega.{arith}
-use borrow.Author.Rules.{rules}
 use Rattle.model.specs.Basics.{keep, first}
-use Rattle.model.specs.Lists.{Window}
-use Rattle.model.specs.Lookups.{is_active, active_window, offset_of, active_offset}
-use Rattle.model.specs.Maybe.{maybe_i32}
-use Rattle.table.specs.Layout.{window_count, entries_from, windows_in, lists_in}
-use Rattle.table.proofs.Counts.{WindowStands, window_stands}
-use Rattle.lookups.proofs.Entries.{whole, first_hit, first_miss, first_over}
+use Rattle.model.specs.Lookups.{is_active, active_window}
+use Rattle.table.specs.Layout.{window_count, entries_from, lists_in}
 use Rattle.lookups.proofs.Views.{window_with_index}
 use Rattle.lookups.proofs.windows.active_dst_offset.Given as goal
 

@@ -1,7 +1,6 @@
 -- `lookups::windows::dst_offset_at` meets its contract.
 use mathlib.Core.Path.{sym, ◌∙◌}
 use native.Mathlib.Omega.{arith}
-use borrow.Author.Rules.{rules}
 use Rattle.table.proofs.Counts.{window_stands}
 use Rattle.lookups.proofs.Views.{window_there, window_past}
 use Rattle.lookups.proofs.windows.dst_offset_at.Goals as goal

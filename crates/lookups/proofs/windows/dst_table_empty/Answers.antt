@@ -1,7 +1,6 @@
 -- `lookups::windows::dst_table_empty` meets its contract.
 use mathlib.Core.Path.{◌∙◌, ap}
 use Prim.Native.Nat.{ℕ}
-use borrow.Author.Rules.{rules}
 use lib.Dec.{eqb}
 use Rattle.model.specs.Lookups.{table_empty}
 use Rattle.table.specs.Layout.{window_count, windows_in}

@@ -1,13 +1,9 @@
 -- `lookups::windows::dst_usable` meets its contract.
-use mathlib.Core.Path.{◌≡◌, sym, ◌∙◌, ap}
-use Prim.Native.Nat.{ℕ, ◌-◌, ◌≤◌}
-use native.Mathlib.Omega.{arith}
-use borrow.Author.Rules.{rules}
+use mathlib.Core.Path.{◌≡◌}
+use Prim.Native.Nat.{◌≤◌}
 use Rattle.model.specs.Basics.{any}
 use Rattle.model.specs.Lookups.{is_usable, usable}
-use Rattle.table.specs.Layout.{window_count, entries_from, windows_in, lists_in}
-use Rattle.table.proofs.Counts.{window_stands}
-use Rattle.lookups.proofs.Entries.{any_hit, any_miss, any_over}
+use Rattle.table.specs.Layout.{window_count, entries_from, lists_in}
 use Rattle.lookups.proofs.Views.{window_with_index}
 use Rattle.lookups.proofs.windows.dst_usable.Given as goal
 

@@ -1,6 +1,5 @@
 -- `lookups::windows::is_usable` meets its contract.
 use mathlib.Core.Path.{sym, ap}
-use borrow.Author.Rules.{rules}
 use Rattle.model.specs.declared.MaybeU64.{MaybeU64}
 use Rattle.model.specs.Lookups.{not_ended}
 use Rattle.lookups.proofs.Views.{window_with_index, said}

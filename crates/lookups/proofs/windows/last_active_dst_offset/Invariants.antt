@@ -1,16 +1,9 @@
 -- `lookups::windows::last_active_dst_offset` meets its contract.
-use mathlib.Core.Option.{Option}
-use mathlib.Core.Path.{◌≡◌, sym, ◌∙◌, ap}
-use Prim.Native.Nat.{ℕ, ◌-◌, ◌≤◌}
-use native.Mathlib.Omega.{arith}
-use borrow.Author.Rules.{rules}
+use mathlib.Core.Path.{◌≡◌}
+use Prim.Native.Nat.{◌≤◌}
 use Rattle.model.specs.Basics.{keep, last}
-use Rattle.model.specs.Lists.{Window}
-use Rattle.model.specs.Lookups.{is_active, last_active_window, offset_of}
-use Rattle.model.specs.Maybe.{maybe_i32}
-use Rattle.table.specs.Layout.{window_count, entries_from, windows_in, lists_in}
-use Rattle.table.proofs.Counts.{WindowStands, window_stands}
-use Rattle.lookups.proofs.Entries.{last_hit, last_miss, last_over}
+use Rattle.model.specs.Lookups.{is_active, last_active_window}
+use Rattle.table.specs.Layout.{window_count, entries_from, lists_in}
 use Rattle.lookups.proofs.Views.{window_with_index}
 use Rattle.lookups.proofs.windows.last_active_dst_offset.Given as goal
 

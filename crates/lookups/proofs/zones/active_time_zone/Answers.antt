@@ -1,14 +1,10 @@
 -- `lookups::zones::active_time_zone` meets its contract.
-use mathlib.Core.Bool.{Bool}
-use mathlib.Core.List.{List}
-use mathlib.Core.Path.{◌≡◌, sym, ◌∙◌, ap}
-use Prim.Native.Nat.{ℕ, ◌-◌, ◌≤◌}
+use mathlib.Core.Path.{sym, ◌∙◌, ap}
+use Prim.Native.Nat.{ℕ, ◌-◌}
 use native.Mathlib.Omega.{arith}
-use borrow.Author.Rules.{rules}
 use borrow.Author.Tests.{le-leb, lt-leb}
-use lib.Dec.{leb}
 use Rattle.model.specs.Basics.{keep, last}
-use Rattle.table.specs.Layout.{zone_count, entries_from}
+use Rattle.table.specs.Layout.{entries_from}
 use Rattle.lookups.specs.Shown.{shown_by, active_index}
 use Rattle.table.proofs.Counts.{ZoneStands, zone_stands}
 use Rattle.lookups.proofs.Entries.{last_hit, last_miss, last_over}

@@ -1,5 +1,4 @@
 -- `lookups::zones::blank_listed` meets its contract.
-use borrow.Author.Rules.{rules}
 use Rattle.lookups.proofs.zones.blank_listed.Goals as goal
 
 pub returns : goal.returns

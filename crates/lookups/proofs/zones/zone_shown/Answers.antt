@@ -20,9 +20,9 @@ module _ (s : List ℕ) (at : ℕ) (o : ℤ) (t : ℕ) (e : o ≡ signed (word_a
   unnamed h = rw (eq-eqb (byte_at s (at + 12)) 0 h, e, f)
 
   -- a zone with one
-  with-name : (n : ℕ) → 0 < byte_at s (at + 12) → n ≡ min (byte_at s (at + 13)) 64
+  with_name : (n : ℕ) → 0 < byte_at s (at + 12) → n ≡ min (byte_at s (at + 13)) 64
       → record { offset = o; valid_at = t; named = true; name_at = at + 14; name_len = n } ≡ shown_at s at
-  with-name n h g = rw (ne_eqb (byte_at s (at + 12)) 0 (λ z. absurd (omega arith)), e, f, g)
+  with_name n h g = rw (ne_eqb (byte_at s (at + 12)) 0 (λ z. absurd (omega arith)), e, f, g)
 
 pub returns-then-table-at-eq0 : goal.returns-then-table-at-eq0
 returns-then-table-at-eq0 c =
@@ -41,5 +41,5 @@ returns c =
     let at = c.zone_place-at.result in
     let z = c.i32_at-offset.result in
     let back : to_z w32 (of_z w32 z) ≡ z = search rules in
-    with-name s at _ _ (back ∙ c.i32_at-offset.ensures) c.u64_at-valid_at.ensures _ (omega (arith, c.if-table-at-eq0.false)) c.least-name_len.ensures
+    with_name s at _ _ (back ∙ c.i32_at-offset.ensures) c.u64_at-valid_at.ensures _ (omega (arith, c.if-table-at-eq0.false)) c.least-name_len.ensures
     ∙ ap (shown_at s) c.zone_place-at.ensures

@@ -1,7 +1,6 @@
 -- `lookups::zones::zone_start` meets its contract.
 use mathlib.Core.Path.{◌∙◌, ap}
 use Prim.Native.Nat.{ℕ, ◌+◌}
-use borrow.Author.Rules.{rules}
 use Rattle.word.specs.Place.{word_at}
 use Rattle.lookups.proofs.zones.zone_start.Goals as goal
 

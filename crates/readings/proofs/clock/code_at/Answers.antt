@@ -1,5 +1,4 @@
 -- `readings::clock::code_at` meets its contract.
-use borrow.Author.Rules.{rules}
 use Rattle.readings.proofs.clock.code_at.Goals as goal
 
 pub returns-then-mark_at : goal.returns-then-mark_at

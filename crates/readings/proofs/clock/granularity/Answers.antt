@@ -1,5 +1,4 @@
 -- `readings::clock::granularity` meets its contract.
-use borrow.Author.Rules.{rules}
 use mathlib.Core.Path.{◌∙◌}
 use Rattle.readings.proofs.Codes.{granularity_code}
 use Rattle.readings.proofs.clock.granularity.Goals as goal

@@ -1,5 +1,4 @@
 -- `readings::clock::reading` meets its contract.
-use borrow.Author.Rules.{rules}
 use mathlib.Core.Bool.{true, false}
 use mathlib.Core.List.{List}
 use mathlib.Core.Option.{some}

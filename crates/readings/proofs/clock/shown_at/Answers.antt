@@ -1,15 +1,11 @@
 -- `readings::clock::shown_at` meets its contract.
-use borrow.Author.Rules.{rules}
 use mathlib.Core.Bool.{Bool, true, false, cond}
-use mathlib.Core.List.{List}
-use mathlib.Core.Option.{Option, none, some}
+use mathlib.Core.Option.{none, some}
 use mathlib.Core.Path.{◌≡◌, refl, ap, ◌∙◌}
 use Rattle.model.specs.Clock as C
 use Rattle.model.specs.Handler as H
 use Rattle.model.specs.LocalTime as M
-use Rattle.model.specs.Lists.{Lists}
 use Rattle.model.specs.Store.{Store}
-use Rattle.rtc.specs.Meaning.{reading_of}
 use Rattle.table.specs.Layout.{store_in, lists_in}
 use Rattle.image.specs.Layout.{table_in}
 use Rattle.image.specs.Parts.{clock_in, has_lists}

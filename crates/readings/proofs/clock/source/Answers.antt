@@ -1,5 +1,4 @@
 -- `readings::clock::source` meets its contract.
-use borrow.Author.Rules.{rules}
 use mathlib.Core.Path.{◌∙◌}
 use Rattle.readings.proofs.Codes.{source_code}
 use Rattle.readings.proofs.clock.source.Goals as goal

@@ -1,5 +1,4 @@
 -- `readings::clock::trusted_time_source` meets its contract.
-use borrow.Author.Rules.{rules}
 use mathlib.Core.Path.{sym, ◌∙◌}
 use borrow.Author.Tests.{not-true, not-false}
 use Rattle.model.specs.Answers.{answers}

@@ -1,5 +1,4 @@
 -- `readings::clock::utc_time_granularity` meets its contract.
-use borrow.Author.Rules.{rules}
 use mathlib.Core.Path.{sym, ◌∙◌}
 use borrow.Author.Tests.{not-true, not-false}
 use Rattle.model.specs.Answers.{answers}

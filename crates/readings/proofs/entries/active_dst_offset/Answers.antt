@@ -1,5 +1,4 @@
 -- `readings::entries::active_dst_offset` meets its contract.
-use borrow.Author.Rules.{rules}
 use Prim.Native.Nat.{ℕ}
 use lib.IntN.{ℤ}
 use mathlib.Core.Option.{Option}

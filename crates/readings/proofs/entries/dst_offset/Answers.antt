@@ -1,5 +1,4 @@
 -- `readings::entries::dst_offset` meets its contract.
-use borrow.Author.Rules.{rules}
 use Rattle.model.specs.Handler as H
 use Rattle.readings.specs.Stored.{window_read}
 use Rattle.readings.proofs.Answered.{store_refused, store_read, image_sized, refused_number, refused_leaves, same_number, same_leaves}

@@ -1,5 +1,4 @@
 -- `readings::entries::put_active` meets its contract.
-use borrow.Author.Rules.{rules}
 use mathlib.Core.Path.{ap, sym, ◌∙◌}
 use lib.ListN.{length}
 use Rattle.model.specs.Answers.{answers}

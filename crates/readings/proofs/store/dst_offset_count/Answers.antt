@@ -1,5 +1,4 @@
 -- `readings::store::dst_offset_count` meets its contract.
-use borrow.Author.Rules.{rules}
 use Prim.Native.Nat.{ℕ}
 use lib.ListN.{length}
 use Rattle.model.specs.Answers.{Answer, answers}

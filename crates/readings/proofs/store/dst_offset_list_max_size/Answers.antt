@@ -1,5 +1,4 @@
 -- `readings::store::dst_offset_list_max_size` meets its contract.
-use borrow.Author.Rules.{rules}
 use Prim.Native.Nat.{ℕ}
 use Rattle.model.specs.Answers.{Answer, answers}
 use Rattle.model.specs.Handler as H

@@ -1,5 +1,4 @@
 -- `readings::store::dst_table_empty` meets its contract.
-use borrow.Author.Rules.{rules}
 use Rattle.model.specs.Lookups as L
 use mathlib.Core.Bool.{Bool}
 use Rattle.model.specs.Answers.{Answer, answers}

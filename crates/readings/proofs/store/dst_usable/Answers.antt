@@ -1,5 +1,4 @@
 -- `readings::store::dst_usable` meets its contract.
-use borrow.Author.Rules.{rules}
 use Prim.Native.Nat.{ℕ}
 use Rattle.model.specs.Lookups as L
 use mathlib.Core.Bool.{Bool}

@@ -1,5 +1,4 @@
 -- `readings::store::time_zone_count` meets its contract.
-use borrow.Author.Rules.{rules}
 use Prim.Native.Nat.{ℕ}
 use Rattle.model.specs.Lookups as L
 use lib.ListN.{length}

@@ -1,5 +1,4 @@
 -- `readings::store::time_zone_database` meets its contract.
-use borrow.Author.Rules.{rules}
 use mathlib.Core.Path.{refl}
 use Prim.Native.Nat.{ℕ}
 use Rattle.model.specs.Answers.{Answer, answers}

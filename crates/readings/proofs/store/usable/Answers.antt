@@ -1,5 +1,4 @@
 -- `readings::store::usable` meets its contract.
-use borrow.Author.Rules.{rules}
 use mathlib.Core.Path.{ap, ◌∙◌}
 use Rattle.model.specs.Output.{truth}
 use Rattle.readings.proofs.store.usable.Goals as goal

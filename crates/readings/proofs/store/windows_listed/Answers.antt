@@ -1,5 +1,4 @@
 -- `readings::store::windows_listed` meets its contract.
-use borrow.Author.Rules.{rules}
 use mathlib.Core.Path.{sym, ◌∙◌}
 use Rattle.readings.proofs.Counts.{windows_are_lem}
 use Rattle.readings.proofs.store.windows_listed.Goals as goal

@@ -1,5 +1,4 @@
 -- `readings::store::zones_listed` meets its contract.
-use borrow.Author.Rules.{rules}
 use mathlib.Core.Path.{ap, ◌∙◌}
 use Prim.Native.Nat.{ℕ, max}
 use Rattle.readings.proofs.Counts.{listed_are}

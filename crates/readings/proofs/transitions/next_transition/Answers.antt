@@ -1,5 +1,4 @@
 -- `readings::transitions::next_transition` meets its contract.
-use borrow.Author.Rules.{rules}
 use Prim.Native.Nat.{ℕ}
 use mathlib.Core.Option.{Option}
 use Rattle.model.specs.Answers.{Answer, answers}

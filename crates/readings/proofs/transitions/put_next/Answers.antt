@@ -1,5 +1,4 @@
 -- `readings::transitions::put_next` meets its contract.
-use borrow.Author.Rules.{rules}
 use mathlib.Core.Path.{ap, ◌∙◌}
 use Rattle.model.specs.Lookups as L
 use Rattle.model.specs.Maybe.{option_u64}

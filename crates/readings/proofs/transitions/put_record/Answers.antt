@@ -1,5 +1,4 @@
 -- `readings::transitions::put_record` meets its contract.
-use borrow.Author.Rules.{rules}
 use mathlib.Core.Path.{◌≡◌, refl, ◌∙◌}
 use native.Mathlib.Omega.{arith}
 use Rattle.model.specs.Store as T

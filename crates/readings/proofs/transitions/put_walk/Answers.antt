@@ -1,5 +1,4 @@
 -- `readings::transitions::put_walk` meets its contract.
-use borrow.Author.Rules.{rules}
 use mathlib.Core.List.{List}
 use mathlib.Core.Path.{◌≡◌, refl, ap, ◌∙◌}
 use Prim.Native.Nat.{ℕ}

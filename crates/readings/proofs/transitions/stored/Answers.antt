@@ -1,5 +1,4 @@
 -- `readings::transitions::stored` meets its contract.
-use borrow.Author.Rules.{rules}
 use mathlib.Core.Path.{ap}
 use Rattle.model.specs.Handler as H
 use Rattle.model.specs.Output.{roomy}

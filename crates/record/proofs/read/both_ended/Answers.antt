@@ -1,6 +1,5 @@
 -- `record::read::both_ended` meets its contract.
 use mathlib.Core.Path.{◌≡◌, sym, ap, ◌∙◌}
-use borrow.Author.Rules.{rules}
 use Rattle.record.specs.declared.section.SectionCount.{SectionCount}
 use Rattle.record.specs.Fronts.{is_whole, read_before, windows_found, record_before}
 use Rattle.record.proofs.read.both_ended.Goals as goal

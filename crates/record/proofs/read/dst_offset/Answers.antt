@@ -1,14 +1,13 @@
 -- `record::read::dst_offset` meets its contract: entry `k` stands at `at`.
 use mathlib.Core.List.{List, [], ◌∷◌}
-use mathlib.Core.Option.{Option, none, some}
+use mathlib.Core.Option.{none}
 use mathlib.Core.Path.{◌≡◌, refl, sym, ap, ◌∙◌}
-use Prim.Native.Nat.{ℕ, ◌-◌, ◌≤◌, ◌<◌}
+use Prim.Native.Nat.{ℕ, ◌≤◌, ◌<◌}
 use native.Mathlib.Omega.{arith}
-use borrow.Author.Rules.{rules}
 use borrow.Author.Tests.{lt-ltb, le-ltb}
 use lib.ListN.{length, get_or}
 use Rattle.record.specs.declared.DSTOffsetRead.TheVariants as E
-use Rattle.record.specs.Fronts.{place_after, window_at, next_window, window_from, section_window}
+use Rattle.record.specs.Fronts.{place_after, next_window, window_from, section_window}
 use Rattle.record.proofs.Indexed.{place_more, place_stops}
 use Rattle.record.proofs.read.dst_offset.Invariants.{step}
 use Rattle.record.proofs.read.dst_offset.Goals as goal

@@ -2,11 +2,10 @@
 use mathlib.Core.Path.{◌≡◌, sym, ◌∙◌}
 use Prim.Native.Nat.{ℕ, suc, ◌-◌, ◌≤◌, ◌<◌}
 use native.Mathlib.Omega.{arith}
-use borrow.Author.Rules.{rules}
-use lib.ListN.{length, get_or}
+use lib.ListN.{length}
 use Rattle.model.specs.Bytes.{read_window}
 use Rattle.record.specs.Fronts.{windows_at}
-use Rattle.record.proofs.Sections.{Reading, no_count, begins, stops, goes_on_lem, ends, window_read_lem, window_unread}
+use Rattle.record.proofs.Sections.{no_count, begins, stops, goes_on_lem, ends, window_read_lem, window_unread}
 use Rattle.record.proofs.read.dst_offsets_at.Goals as goal
 
 -- one entry more is behind

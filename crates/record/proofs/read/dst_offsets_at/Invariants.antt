@@ -1,12 +1,7 @@
 -- `record::read::dst_offsets_at` meets its contract: `left` entries are still to be read, from `next` on.
-use mathlib.Core.Path.{◌≡◌, sym, ◌∙◌}
-use Prim.Native.Nat.{ℕ, suc, ◌-◌, ◌≤◌, ◌<◌}
-use native.Mathlib.Omega.{arith}
-use borrow.Author.Rules.{rules}
-use lib.ListN.{length, get_or}
+use lib.ListN.{get_or}
 use Rattle.model.specs.Bytes.{read_window}
-use Rattle.record.specs.Fronts.{windows_at}
-use Rattle.record.proofs.Sections.{Reading, no_count, begins, stops, goes_on_lem, ends, window_read_lem, window_unread}
+use Rattle.record.proofs.Sections.{Reading}
 use Rattle.record.proofs.read.dst_offsets_at.Given as goal
 
 abbrev pub invariant-loop-left : goal.invariant-loop-left

@@ -1,6 +1,5 @@
 -- `record::read::ended` meets its contract.
 use mathlib.Core.Path.{sym, ap, ◌∙◌}
-use borrow.Author.Rules.{rules}
 use Rattle.record.specs.declared.section.SectionCount.{SectionCount}
 use Rattle.record.specs.Fronts.{is_whole, read_before}
 use Rattle.record.proofs.read.ended.Goals as goal

@@ -2,11 +2,10 @@
 use mathlib.Core.Path.{◌≡◌, sym, ◌∙◌}
 use Prim.Native.Nat.{ℕ, suc, ◌-◌, ◌≤◌, ◌<◌}
 use native.Mathlib.Omega.{arith}
-use borrow.Author.Rules.{rules}
-use lib.ListN.{length, get_or}
+use lib.ListN.{length}
 use Rattle.model.specs.Bytes.{read_zone}
 use Rattle.record.specs.Fronts.{zones_at}
-use Rattle.record.proofs.Sections.{Reading, no_count, begins, stops, goes_on_lem, ends, zone_read_lem, zone_unread}
+use Rattle.record.proofs.Sections.{no_count, begins, stops, goes_on_lem, ends, zone_read_lem, zone_unread}
 use Rattle.record.proofs.read.time_zones_at.Goals as goal
 
 -- one entry more is behind

@@ -1,6 +1,5 @@
 -- `record::read::whole` meets its contract.
 use mathlib.Core.Path.{sym}
-use borrow.Author.Rules.{rules}
 use Rattle.record.proofs.Sections.{whole_is, whole_not}
 use Rattle.record.proofs.read.whole.Goals as goal
 

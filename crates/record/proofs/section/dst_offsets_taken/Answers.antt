@@ -1,6 +1,5 @@
 -- `record::section::dst_offsets_taken` meets its contract.
 use mathlib.Core.Path.{ap, ◌∙◌}
-use borrow.Author.Rules.{rules}
 use Rattle.record.specs.Fronts.{taken_from, windows_taken}
 use Rattle.record.proofs.section.dst_offsets_taken.Goals as goal
 

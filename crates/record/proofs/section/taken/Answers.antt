@@ -1,6 +1,5 @@
 -- `record::section::taken` meets its contract.
 use mathlib.Core.Path.{sym, ap}
-use borrow.Author.Rules.{rules}
 use Rattle.record.specs.Fronts.{taken_from}
 use Rattle.record.proofs.section.taken.Goals as goal
 

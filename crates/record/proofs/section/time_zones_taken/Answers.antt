@@ -1,6 +1,5 @@
 -- `record::section::time_zones_taken` meets its contract.
 use mathlib.Core.Path.{ap, ◌∙◌}
-use borrow.Author.Rules.{rules}
 use Rattle.record.specs.Fronts.{taken_from, zones_taken}
 use Rattle.record.proofs.section.time_zones_taken.Goals as goal
 

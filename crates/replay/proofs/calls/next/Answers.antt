@@ -2,7 +2,6 @@
 use mathlib.Core.List.{List}
 use mathlib.Core.Path.{◌≡◌, refl, ◌∙◌}
 use Prim.Native.Nat.{ℕ, zero, suc}
-use borrow.Author.Rules.{rules}
 use Rattle.history.specs.Calls.{call_with}
 use Rattle.table.specs.Left.{time_zone_left, dst_offset_left, load_left, reset_left}
 use Rattle.model.specs.Bytes.{record_most}
@@ -27,13 +26,13 @@ module _ (t b : List ℕ) (k : ℕ) where
   unfolding table_next call_with
   kind_3 h = rw h
 
-kind-4 : (t b : List ℕ) (k : ℕ) → (k ≡ 3 → ⊥) → (k ≡ 0 → ⊥) → (k ≡ 1 → ⊥) → (k ≡ 2 → ⊥) → reset_left t ≡ table_next t (call_with k b)
+kind_4 : (t b : List ℕ) (k : ℕ) → (k ≡ 3 → ⊥) → (k ≡ 0 → ⊥) → (k ≡ 1 → ⊥) → (k ≡ 2 → ⊥) → reset_left t ≡ table_next t (call_with k b)
 unfolding table_next call_with
-kind-4 t b zero h e f g = absurd (e refl)
-kind-4 t b (suc zero) h e f g = absurd (f refl)
-kind-4 t b (suc (suc zero)) h e f g = absurd (g refl)
-kind-4 t b (suc (suc (suc zero))) h e f g = absurd (h refl)
-kind-4 t b (suc (suc (suc (suc k)))) h e f g = refl
+kind_4 t b zero h e f g = absurd (e refl)
+kind_4 t b (suc zero) h e f g = absurd (f refl)
+kind_4 t b (suc (suc zero)) h e f g = absurd (g refl)
+kind_4 t b (suc (suc (suc zero))) h e f g = absurd (h refl)
+kind_4 t b (suc (suc (suc (suc k)))) h e f g = refl
 
 pub returns-then-kind-eq-LOAD_NOTHING : goal.returns-then-kind-eq-LOAD_NOTHING
 returns-then-kind-eq-LOAD_NOTHING c = let a = c.args in kind_3 a.table.now a.bytes.now a.kind c.if-kind-eq-LOAD_NOTHING.true
@@ -57,4 +56,4 @@ pub returns : goal.returns
 returns c =
     let a = c.args in
     c.factory_reset.ensures
-    ∙ kind-4 a.table.now a.bytes.now a.kind c.if-kind-eq-LOAD_NOTHING.false c.if-kind-eq-SET_TIME_ZONE.false c.if-kind-eq-SET_DST_OFFSET.false c.if-kind-eq-LOAD.false
+    ∙ kind_4 a.table.now a.bytes.now a.kind c.if-kind-eq-LOAD_NOTHING.false c.if-kind-eq-SET_TIME_ZONE.false c.if-kind-eq-SET_DST_OFFSET.false c.if-kind-eq-LOAD.false

@@ -6,11 +6,11 @@ use mathlib.Core.Path.{◌≡◌, refl, sym, ap, ◌∙◌}
 use Prim.Native.Nat.{ℕ, ◌+◌, ◌-◌}
 use native.Mathlib.Omega.{arith}
 use borrow.Author.Rules.{rules}
-use lib.ListN.{length, take, drop}
+use lib.ListN.{take, drop}
 use Rattle.model.specs.Basics.{is_some}
 use Rattle.model.specs.History.{Call}
 use Rattle.history.specs.Calls.{call_with, read_calls}
-use Rattle.history.specs.Laws.{There, Fold}
+use Rattle.history.specs.Laws.{There}
 use Rattle.history.proofs.Reading.{call_there, fold_laws}
 use Rattle.replay.specs.Tables.{table_next, table_through}
 use Rattle.replay.proofs.calls.through.Goals as goal
@@ -38,17 +38,17 @@ returns-in-NoCall c =
 
 pub overflow_add-from : goal.overflow_add-from
 overflow_add-from c =
-    let told :  There c.args.history.now c.loop-at.at c.in-Call.kind c.in-Call.from c.in-Call.n c.in-Call.end = call_there _ _ _ _ _ _ (sym c.call_at.ensures ∙ c.in-Call.is) in
+    let told : There c.args.history.now c.loop-at.at c.in-Call.kind c.in-Call.from c.in-Call.n c.in-Call.end = call_there _ _ _ _ _ _ (sym c.call_at.ensures ∙ c.in-Call.is) in
     let t = told in omega (arith, t.argument)
 
 pub slice_bounds-next-end : goal.slice_bounds-next-end
 slice_bounds-next-end c =
-    let told :  There c.args.history.now c.loop-at.at c.in-Call.kind c.in-Call.from c.in-Call.n c.in-Call.end = call_there _ _ _ _ _ _ (sym c.call_at.ensures ∙ c.in-Call.is) in
+    let told : There c.args.history.now c.loop-at.at c.in-Call.kind c.in-Call.from c.in-Call.n c.in-Call.end = call_there _ _ _ _ _ _ (sym c.call_at.ensures ∙ c.in-Call.is) in
     let t = told in omega (arith, t.argument)
 
 pub loop-at-smaller : goal.loop-at-smaller
 loop-at-smaller c =
-    let told :  There c.args.history.now c.loop-at.at c.in-Call.kind c.in-Call.from c.in-Call.n c.in-Call.end = call_there _ _ _ _ _ _ (sym c.call_at.ensures ∙ c.in-Call.is) in
+    let told : There c.args.history.now c.loop-at.at c.in-Call.kind c.in-Call.from c.in-Call.n c.in-Call.end = call_there _ _ _ _ _ _ (sym c.call_at.ensures ∙ c.in-Call.is) in
     let t = told in omega (arith, t.onward, t.within)
 
 pub loop-at-preserved : goal.loop-at-preserved

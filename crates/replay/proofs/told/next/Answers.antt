@@ -1,6 +1,5 @@
 -- `told::next` meets its contract.
 use mathlib.Core.Path.{ap, ◌∙◌}
-use borrow.Author.Rules.{rules}
 use Rattle.model.specs.Lookups.{next_transition}
 use Rattle.model.specs.Maybe.{option_u64}
 use Rattle.model.specs.Output.{mark_of, or_zero}

@@ -1,7 +1,6 @@
 -- `rtc::Rtc::changes` meets its contract: each test says which case of `changes` holds.
 use mathlib.Core.Path.{sym, ◌∙◌}
 use borrow.Author.Tests.{eq-eqb, ne_eqb, not-true, not-false}
-use borrow.Author.Rules.{rules}
 use Rattle.model.specs.Clock.{changes}
 use Rattle.rtc.proofs.Rtc.changes.Goals as goal
 

@@ -1,6 +1,5 @@
 -- `rtc::Rtc::load_persist` meets its contract: what `no_fabric` answers decides the case, and the two moments are those of `loaded_clock`.
 use mathlib.Core.Path.{sym, ◌∙◌}
-use borrow.Author.Rules.{rules}
 use Rattle.model.specs.Clock.{load}
 use Rattle.rtc.proofs.Rtc.load_persist.Goals as goal
 

@@ -1,5 +1,4 @@
 -- `rtc::Rtc::reset_persist` meets its contract: a fresh clock, with the removals.
-use borrow.Author.Rules.{rules}
 use Rattle.model.specs.Clock.{reset_persist}
 use Rattle.rtc.proofs.Rtc.reset_persist.Goals as goal
 

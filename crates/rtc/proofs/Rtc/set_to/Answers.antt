@@ -1,5 +1,4 @@
 -- `rtc::Rtc::set_to` meets its contract: the granularity is lowered by `stepped`.
-use borrow.Author.Rules.{rules}
 use Rattle.rtc.proofs.Rtc.set_to.Goals as goal
 
 pub returns : goal.returns

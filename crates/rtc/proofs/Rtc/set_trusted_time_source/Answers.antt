@@ -1,6 +1,5 @@
 -- `rtc::Rtc::set_trusted_time_source` meets its contract: what `same_source` answers decides the case.
 use mathlib.Core.Path.{sym, ◌∙◌}
-use borrow.Author.Rules.{rules}
 use Rattle.model.specs.Clock.{set_trusted_time_source}
 use Rattle.rtc.proofs.Rtc.set_trusted_time_source.Goals as goal
 

@@ -1,6 +1,5 @@
 -- `rtc::Rtc::set_trusted_time_source_persist` meets its contract: what `same_source` answers decides the case, and the state is that of `set_trusted_time_source`.
 use mathlib.Core.Path.{sym, ap, ◌∙◌}
-use borrow.Author.Rules.{rules}
 use Rattle.model.specs.Clock.{set_trusted_time_source, set_trusted_time_source_persist}
 use Rattle.rtc.proofs.Rtc.set_trusted_time_source_persist.Goals as goal
 

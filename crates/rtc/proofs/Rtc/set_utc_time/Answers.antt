@@ -1,5 +1,4 @@
 -- `rtc::Rtc::set_utc_time` meets its contract: the clock is set whatever `changes` says.
-use borrow.Author.Rules.{rules}
 use Rattle.model.specs.Clock.{set_utc_time}
 use Rattle.rtc.proofs.Rtc.set_utc_time.Goals as goal
 

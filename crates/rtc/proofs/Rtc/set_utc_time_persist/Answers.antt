@@ -2,7 +2,6 @@
 use mathlib.Core.Path.{ap}
 use native.Mathlib.Omega.{arith}
 use borrow.Author.Tests.{le-leb, lt-leb}
-use borrow.Author.Rules.{rules}
 use Rattle.model.specs.Clock.{Clock, set_utc_time, distance, a_day_apart, with_persisted, set_utc_time_persist}
 use Rattle.rtc.proofs.Answers.{says}
 use Rattle.rtc.proofs.Rtc.set_utc_time_persist.Goals as goal

@@ -1,5 +1,4 @@
 -- `rtc::Rtc::utc_time` meets its contract: each arm is given which constructor the anchor is, at which `reading_at` computes.
-use borrow.Author.Rules.{rules}
 use Rattle.model.specs.Clock.{reading}
 use Rattle.rtc.proofs.Rtc.utc_time.Goals as goal
 

@@ -1,5 +1,4 @@
 -- `rtc::Rtc::utc_time_granularity` meets its contract: each arm is given which constructor the anchor is.
-use borrow.Author.Rules.{rules}
 use Rattle.model.specs.Clock.{granularity_read}
 use Rattle.rtc.proofs.Rtc.utc_time_granularity.Goals as goal
 

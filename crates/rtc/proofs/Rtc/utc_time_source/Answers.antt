@@ -1,5 +1,4 @@
 -- `rtc::Rtc::utc_time_source` meets its contract: each arm is given which constructor the anchor is.
-use borrow.Author.Rules.{rules}
 use Rattle.model.specs.Clock.{source_read}
 use Rattle.rtc.proofs.Rtc.utc_time_source.Goals as goal
 

@@ -1,5 +1,4 @@
 -- `rtc::UtcTime::reliable` meets its contract: each arm is given which constructor the reading is.
-use borrow.Author.Rules.{rules}
 use Rattle.rtc.proofs.UtcTime.reliable.Goals as goal
 
 pub returns-in-Reliable : goal.returns-in-Reliable

@@ -1,5 +1,4 @@
 -- `rtc::load::no_fabric` meets its contract: each arm is given which constructor the source is.
-use borrow.Author.Rules.{rules}
 use Rattle.rtc.proofs.load.no_fabric.Goals as goal
 
 pub returns-in-Is : goal.returns-in-Is

@@ -1,7 +1,6 @@
 -- `rtc::load::stored_utc` meets its contract: of a stored moment and the build moment the larger is taken.
 use Prim.Native.Nat.{◌<◌}
 use native.Mathlib.Omega.{arith}
-use borrow.Author.Rules.{rules}
 use Rattle.rtc.proofs.load.stored_utc.Goals as goal
 
 pub returns-then-moment-build : goal.returns-then-moment-build

@@ -1,5 +1,4 @@
 -- `rtc::setting::same_granularity` meets its contract: the two numbers are those of the definition.
-use borrow.Author.Rules.{rules}
 use Rattle.rtc.proofs.setting.same_granularity.Goals as goal
 
 pub returns : goal.returns

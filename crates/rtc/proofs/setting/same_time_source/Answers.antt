@@ -1,5 +1,4 @@
 -- `rtc::setting::same_time_source` meets its contract: the two numbers are those of the definition.
-use borrow.Author.Rules.{rules}
 use Rattle.rtc.proofs.setting.same_time_source.Goals as goal
 
 pub returns : goal.returns

@@ -1,5 +1,4 @@
 -- `rtc::trusted::change_to` meets its contract: each arm is given which constructor the source is.
-use borrow.Author.Rules.{rules}
 use Rattle.rtc.proofs.trusted.change_to.Goals as goal
 
 pub returns-in-Nothing : goal.returns-in-Nothing

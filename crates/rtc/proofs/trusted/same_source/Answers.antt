@@ -1,5 +1,4 @@
 -- `rtc::trusted::same_source` meets its contract: where both are there, `same_parts` decides.
-use borrow.Author.Rules.{rules}
 use Rattle.rtc.proofs.trusted.same_source.Goals as goal
 
 pub returns-in-Is-b-2 : goal.returns-in-Is-b-2

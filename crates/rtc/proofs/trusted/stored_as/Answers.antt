@@ -1,5 +1,4 @@
 -- `rtc::trusted::stored_as` meets its contract: each arm is given which constructor the source is.
-use borrow.Author.Rules.{rules}
 use Rattle.rtc.proofs.trusted.stored_as.Goals as goal
 
 pub returns-in-Nothing : goal.returns-in-Nothing

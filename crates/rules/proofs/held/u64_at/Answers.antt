@@ -1,7 +1,6 @@
 -- `rules::held::u64_at` meets its contract.
 use mathlib.Core.Path.{◌∙◌}
 use native.Mathlib.Omega.{arith}
-use borrow.Author.Rules.{rules}
 use Rattle.word.proofs.Spelling.{eight}
 use Rattle.rules.proofs.held.u64_at.Goals as goal
 

@@ -1,6 +1,5 @@
 -- `rules::windows::below_its_end` meets its contract.
 use mathlib.Core.Path.{sym, ap}
-use borrow.Author.Rules.{rules}
 use Rattle.rules.specs.Numbers.{below_end}
 use Rattle.rules.proofs.windows.below_its_end.Goals as goal
 

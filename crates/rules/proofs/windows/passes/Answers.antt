@@ -1,5 +1,4 @@
 -- `rules::windows::passes` meets its contract.
-use borrow.Author.Rules.{rules}
 use Rattle.rules.proofs.Tests.{fails, holds}
 use Rattle.rules.proofs.windows.passes.Goals as goal
 

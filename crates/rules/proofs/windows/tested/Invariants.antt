@@ -1,11 +1,7 @@
 -- `rules::windows::tested` meets its contract: the windows from `index` on, which stand at `next`, decide.
-use mathlib.Core.Path.{sym, ap, ◌∙◌}
 use Prim.Native.Nat.{◌-◌}
-use native.Mathlib.Omega.{arith}
-use borrow.Author.Rules.{rules}
-use borrow.Author.Tests.{not-true, not-false}
-use Rattle.rules.proofs.Walk.{Walked, Here, begins, ends, full, there, unread, refuses, goes_on_lem}
-use Rattle.rules.proofs.Entries.{window_seen, windows}
+use Rattle.rules.proofs.Walk.{Walked}
+use Rattle.rules.proofs.Entries.{windows}
 use Rattle.rules.proofs.windows.tested.Given as goal
 
 abbrev pub invariant-loop-index : goal.invariant-loop-index

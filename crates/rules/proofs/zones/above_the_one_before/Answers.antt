@@ -1,6 +1,5 @@
 -- `rules::zones::above_the_one_before` meets its contract.
 use mathlib.Core.Path.{sym, ap}
-use borrow.Author.Rules.{rules}
 use Rattle.model.specs.declared.MaybeU64.{MaybeU64}
 use Rattle.rules.specs.Numbers.{above}
 use Rattle.rules.proofs.zones.above_the_one_before.Goals as goal

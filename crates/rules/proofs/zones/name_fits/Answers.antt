@@ -1,6 +1,5 @@
 -- `rules::zones::name_fits` meets its contract.
 use mathlib.Core.Path.{sym, ap}
-use borrow.Author.Rules.{rules}
 use Rattle.rules.specs.Numbers.{length_fits}
 use Rattle.rules.proofs.zones.name_fits.Goals as goal
 

@@ -9,11 +9,11 @@ use Rattle.model.specs.Rules.{offset_in_range}
 use Rattle.rules.proofs.zones.offset_in_range.Goals as goal
 
 -- the code reads an offset `y` that is `o`
-from-west : (o y : ℤ) (b : Bool) → y ≡ o → le_z (negsuc 43199) y ≡ b → b && le_z y (pos 50400) ≡ offset_in_range o
-from-west o y b e t = ap (λ (x : Bool). x && le_z y (pos 50400)) (sym t) ∙ ap offset_in_range e
+from_west : (o y : ℤ) (b : Bool) → y ≡ o → le_z (negsuc 43199) y ≡ b → b && le_z y (pos 50400) ≡ offset_in_range o
+from_west o y b e t = ap (λ (x : Bool). x && le_z y (pos 50400)) (sym t) ∙ ap offset_in_range e
 
 pub returns-then-o-geminus43200 : goal.returns-then-o-geminus43200
-returns-then-o-geminus43200 c = from-west _ _ true (to_z-of_z {w = w32} c.ranges.o) c.if-o-geminus43200.true
+returns-then-o-geminus43200 c = from_west _ _ true (to_z-of_z {w = w32} c.ranges.o) c.if-o-geminus43200.true
 
 pub returns : goal.returns
-returns c = from-west _ _ false (to_z-of_z {w = w32} c.ranges.o) c.if-o-geminus43200.false
+returns c = from_west _ _ false (to_z-of_z {w = w32} c.ranges.o) c.if-o-geminus43200.false

@@ -1,6 +1,5 @@
 -- `rules::zones::passes` meets its contract.
 use mathlib.Core.Path.{◌≡◌, ap, ◌∙◌}
-use borrow.Author.Rules.{rules}
 use mir.Syntax.{w32}
 use mir.Facts.{to_z-of_z}
 use Rattle.model.specs.Rules.{offset_in_range}

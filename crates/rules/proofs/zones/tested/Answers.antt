@@ -1,6 +1,5 @@
 -- `rules::zones::tested` meets its contract: the zones from `index` on, which stand at `next`, decide.
 use mathlib.Core.Path.{◌≡◌, sym, ap, ◌∙◌}
-use Prim.Native.Nat.{◌-◌}
 use native.Mathlib.Omega.{arith}
 use borrow.Author.Rules.{rules}
 use borrow.Author.Tests.{not-true, not-false}
@@ -8,7 +7,7 @@ use lib.IntN.{ℤ}
 use mir.Syntax.{w32}
 use mir.Val.{to_z, of_z}
 use Rattle.rules.specs.Numbers.{zone_passes}
-use Rattle.rules.proofs.Walk.{Walked, Here, begins, ends, full, there, unread, refuses, goes_on_lem}
+use Rattle.rules.proofs.Walk.{Here, begins, ends, full, there, unread, refuses, goes_on_lem}
 use Rattle.rules.proofs.Entries.{zone_seen, zones}
 use Rattle.rules.proofs.zones.tested.Goals as goal
 
@@ -38,7 +37,7 @@ returns-then-not-passes c =
     let here : Here zones = let a = c.args in
     record { s = a.s.now; from = a.at; n = a.n; limit = a.limit; at = c.loop-index.next; index = c.loop-index.index; kept = c.loop-index.before; walked = c.loop-index.invariant } in
     let back : to_z w32 (of_z w32 c.in-Entry.offset) ≡ c.in-Entry.offset = search rules in
-    let test :  let l = c.loop-index in c.passes.result ≡ zone_passes l.index l.before c.in-Entry.offset c.in-Entry.start c.in-Entry.name = let l = c.loop-index in
+    let test : let l = c.loop-index in c.passes.result ≡ zone_passes l.index l.before c.in-Entry.offset c.in-Entry.start c.in-Entry.name = let l = c.loop-index in
     c.passes.ensures ∙ ap (λ (o : ℤ). zone_passes l.index l.before o c.in-Entry.start c.in-Entry.name) back in
     refuses zones here c.loop-index-test.true _ (ap zone_seen (sym c.zone_there.ensures ∙ c.in-Entry.is)) (λ e. omega (arith, e, c.if-index-limit.false)) (sym test ∙ not-true _ c.if-not-passes.true-raw)
 
@@ -47,7 +46,7 @@ loop-index-preserved c =
     let here : Here zones = let a = c.args in
     record { s = a.s.now; from = a.at; n = a.n; limit = a.limit; at = c.loop-index.next; index = c.loop-index.index; kept = c.loop-index.before; walked = c.loop-index.invariant } in
     let back : to_z w32 (of_z w32 c.in-Entry.offset) ≡ c.in-Entry.offset = search rules in
-    let test :  let l = c.loop-index in c.passes.result ≡ zone_passes l.index l.before c.in-Entry.offset c.in-Entry.start c.in-Entry.name = let l = c.loop-index in
+    let test : let l = c.loop-index in c.passes.result ≡ zone_passes l.index l.before c.in-Entry.offset c.in-Entry.start c.in-Entry.name = let l = c.loop-index in
     c.passes.ensures ∙ ap (λ (o : ℤ). zone_passes l.index l.before o c.in-Entry.start c.in-Entry.name) back in
     goes_on_lem zones here c.loop-index-test.true _ (ap zone_seen (sym c.zone_there.ensures ∙ c.in-Entry.is)) (λ e. omega (arith, e, c.if-index-limit.false)) (sym test ∙ not-false _ c.if-not-passes.false-raw)
 

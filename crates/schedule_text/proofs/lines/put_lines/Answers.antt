@@ -1,15 +1,14 @@
 -- `schedule_text::lines::put_lines` meets its contract: the lines of the first `i` moments are written.
 use mathlib.Core.List.{List}
 use mathlib.Core.Path.{◌≡◌, ap, ◌∙◌}
-use Prim.Native.Nat.{ℕ, suc, ◌+◌, ◌-◌, ◌≤◌, min}
+use Prim.Native.Nat.{ℕ, suc, ◌+◌}
 use native.Mathlib.Omega.{arith}
 use borrow.Author.Rules.{rules}
-use lib.ListN.{length, take, get_or, length-map, length-take}
+use lib.ListN.{length, get_or, length-take}
 use lib.Seq.{get_or-take, take_all}
 use Rattle.model.specs.Bytes.{all_bytes}
 use Rattle.model.specs.Schedule.{line}
 use Rattle.table.specs.Layout.{lists_in}
-use Rattle.lookups.specs.declared.Walk.{Walk}
 use Rattle.word.specs.Place.{put}
 use Rattle.word.proofs.Writes.{Sofar, sofar_start, sofar_more}
 use Rattle.word.proofs.Writes as writes

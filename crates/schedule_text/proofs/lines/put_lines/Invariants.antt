@@ -1,19 +1,12 @@
 -- `schedule_text::lines::put_lines` meets its contract: the lines of the first `i` moments are written.
 use mathlib.Core.List.{List}
-use mathlib.Core.Path.{◌≡◌, ap, ◌∙◌}
+use mathlib.Core.Path.{◌≡◌}
 use Prim.Native.Nat.{ℕ, suc, ◌+◌, ◌-◌, ◌≤◌, min}
-use native.Mathlib.Omega.{arith}
-use borrow.Author.Rules.{rules}
-use lib.ListN.{length, take, get_or, length-map, length-take}
-use lib.Seq.{get_or-take, take_all}
-use Rattle.model.specs.Bytes.{all_bytes}
+use lib.ListN.{take}
 use Rattle.model.specs.Schedule.{line}
 use Rattle.table.specs.Layout.{lists_in}
 use Rattle.lookups.specs.declared.Walk.{Walk}
-use Rattle.word.specs.Place.{put}
-use Rattle.word.proofs.Writes.{Sofar, sofar_start, sofar_more}
-use Rattle.word.proofs.Writes as writes
-use Rattle.schedule_text.proofs.Words.{line_length}
+use Rattle.word.proofs.Writes.{Sofar}
 use Rattle.schedule_text.proofs.lines.put_lines.Given as goal
 
 -- the moments of a walk by value

@@ -1,6 +1,5 @@
 -- `schedule_text::lines::put_yes_or_no` meets its contract.
 use mathlib.Core.Path.{sym, ap}
-use borrow.Author.Rules.{rules}
 use Rattle.model.specs.Schedule.{yes_or_no}
 use Rattle.text.proofs.Runs.{written_as}
 use Rattle.schedule_text.proofs.lines.put_yes_or_no.Goals as goal

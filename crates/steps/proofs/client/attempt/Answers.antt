@@ -1,6 +1,5 @@
 -- `steps::client::attempt` meets its contract.
 use mathlib.Core.Path.{◌≡◌, refl, sym, ◌∙◌}
-use borrow.Author.Rules.{rules}
 use borrow.Author.Tests.{not-true, not-false}
 use Rattle.time_sync_client.specs.Meaning.{outcome_of}
 use Rattle.image.specs.Asked.{given}

@@ -1,5 +1,4 @@
 -- `steps::client::put_step` meets its contract.
-use borrow.Author.Rules.{rules}
 use Rattle.steps.proofs.client.put_step.Goals as goal
 
 pub returns : goal.returns

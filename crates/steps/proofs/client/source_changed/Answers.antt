@@ -1,6 +1,5 @@
 -- `steps::client::source_changed` meets its contract.
 use mathlib.Core.Path.{refl, sym, ◌∙◌}
-use borrow.Author.Rules.{rules}
 use borrow.Author.Tests.{not-true, not-false}
 use Rattle.steps.proofs.Returned.{refused_is}
 use Rattle.steps.proofs.Steps.{changed_not, changed_is}

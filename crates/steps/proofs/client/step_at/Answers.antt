@@ -1,5 +1,4 @@
 -- `steps::client::step_at` meets its contract.
-use borrow.Author.Rules.{rules}
 use Rattle.time_sync_client.specs.Meaning.{outcome_of}
 use Rattle.steps.proofs.Steps.{attempt_of_lem}
 use Rattle.steps.proofs.client.step_at.Goals as goal

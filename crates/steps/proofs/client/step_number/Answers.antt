@@ -1,5 +1,4 @@
 -- `steps::client::step_number` meets its contract.
-use borrow.Author.Rules.{rules}
 use Rattle.model.specs.Basics.{when}
 use Rattle.model.specs.Maybe.{option_u64}
 use Rattle.model.specs.Answers.{emit, MissingTrustedTimeSource, TimeFailure}

@@ -1,7 +1,6 @@
 -- `steps::timer::copy_name` meets its contract.
 use mathlib.Core.Path.{◌∙◌}
 use native.Mathlib.Omega.{arith}
-use borrow.Author.Rules.{rules}
 use lib.ListN.{length-take, length-drop}
 use Rattle.image.specs.Layout.{table_in}
 use Rattle.steps.proofs.Looks.{name_copied}

@@ -1,6 +1,5 @@
 -- `steps::timer::look_now` meets its contract.
 use mathlib.Core.Path.{ap, ◌∙◌}
-use borrow.Author.Rules.{rules}
 use Rattle.model.specs.Clock.{Clock, reading}
 use Rattle.steps.proofs.Looks.{shows}
 use Rattle.steps.proofs.timer.look_now.Goals as goal

@@ -1,6 +1,5 @@
 -- `steps::timer::look_number` meets its contract.
 use mathlib.Core.List.{◌++◌}
-use borrow.Author.Rules.{rules}
 use Rattle.model.specs.Basics.{when}
 use Rattle.model.specs.Answers.{TimeZoneStatus, DSTStatus, DSTTableEmpty}
 use Rattle.lookups.specs.Laws.{shown_name}

@@ -1,5 +1,5 @@
 -- `entries::copy` meets its contract.
-use Rattle.std.proofs.Common.{◌∙◌, rules}
+use Rattle.std.proofs.Common.{◌∙◌}
 use Rattle.word.proofs.Places.{copied_there}
 use Rattle.table.proofs.entries.copy.Goals as goal
 

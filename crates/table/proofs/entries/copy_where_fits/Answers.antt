@@ -1,5 +1,5 @@
 -- `entries::copy_where_fits` meets its contract.
-use Rattle.std.proofs.Common.{◌∙◌, rules}
+use Rattle.std.proofs.Common.{◌∙◌}
 use Rattle.word.proofs.Places.{copied_placed}
 use Rattle.table.proofs.entries.copy_where_fits.Goals as goal
 

@@ -1,11 +1,10 @@
 -- `entries::put_windows` meets its contract: the first `i` entries are copied.
-use Rattle.std.proofs.Common.{◌≡◌, ℕ, ◌-◌, ◌<◌, ◌≤◌, List, get_or, take, drop, refl, ap, ◌∙◌, arith}
+use Rattle.std.proofs.Common.{◌≡◌, ℕ, ◌-◌, ◌≤◌, List}
 use Rattle.model.specs.Bytes.{window_bytes}
-use Rattle.word.specs.Place.{placed}
 use Rattle.table.specs.Layout.{window_place}
-use Rattle.table.specs.Held.{window_length_at, Held, windows_from}
-use Rattle.table.proofs.Held.{WindowsStand, Next, next_window_lem, window_least, window_long, blank_window}
-use Rattle.table.proofs.Writing.{Writing, none_written, one_written, all_written}
+use Rattle.table.specs.Held.{Held, windows_from}
+use Rattle.table.proofs.Held.{WindowsStand}
+use Rattle.table.proofs.Writing.{Writing}
 use Rattle.table.proofs.entries.put_windows.Given as goal
 
 -- the entries stand there, from the first or from a later one on

@@ -1,13 +1,12 @@
 -- `entries::put_zones` meets its contract: the first `i` entries are copied.
-use Rattle.std.proofs.Common.{◌≡◌, ℕ, ◌-◌, ◌<◌, ◌≤◌, List, ◌++◌, length, get_or, take, drop, refl, ap, ◌∙◌, arith, length-append, length-drop, drop_of_length-le}
+use Rattle.std.proofs.Common.{◌≡◌, ℕ, ◌<◌, List, ◌++◌, length, get_or, take, drop, refl, ap, ◌∙◌, arith, length-append, length-drop, drop_of_length-le}
 use Rattle.model.specs.Lists.{Zone}
 use Rattle.model.specs.Bytes.{zone_bytes, all_bytes}
 use Rattle.word.specs.Place.{placed}
 use Rattle.table.specs.Layout.{zone_place}
-use Rattle.table.specs.Held.{zone_length_at, Held, zones_from}
-use Rattle.table.proofs.Held.{ZonesStand, Next, next_zone_lem, zone_least, zone_long, blank_zone}
-use Rattle.table.proofs.Writing.{Writing, none_written, one_written, all_written}
-use Rattle.table.proofs.entries.put_zones.Invariants.{Stand}
+use Rattle.table.specs.Held.{zone_length_at, zones_from}
+use Rattle.table.proofs.Held.{Next, next_zone_lem, zone_least, zone_long, blank_zone}
+use Rattle.table.proofs.Writing.{none_written, one_written, all_written}
 use Rattle.table.proofs.entries.put_zones.Goals as goal
 
 pub loop-i-init : goal.loop-i-init

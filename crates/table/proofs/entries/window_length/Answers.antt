@@ -1,5 +1,5 @@
 -- `entries::window_length` meets its contract.
-use Rattle.std.proofs.Common.{◌+◌, sym, ◌∙◌, rules, eq-eqb, ne_eqb}
+use Rattle.std.proofs.Common.{◌+◌, sym, ◌∙◌, eq-eqb, ne_eqb}
 use Rattle.word.specs.Place.{byte_at}
 use Rattle.table.specs.Held.{window_length_at}
 use Rattle.table.proofs.entries.window_length.Goals as goal

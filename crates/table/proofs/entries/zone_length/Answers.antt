@@ -1,5 +1,5 @@
 -- `entries::zone_length` meets its contract.
-use Rattle.std.proofs.Common.{◌+◌, sym, ◌∙◌, arith, rules, eq-eqb, ne_eqb}
+use Rattle.std.proofs.Common.{◌+◌, sym, ◌∙◌, arith, eq-eqb, ne_eqb}
 use Rattle.word.specs.Place.{byte_at}
 use Rattle.table.specs.Held.{zone_length_at}
 use Rattle.table.proofs.entries.zone_length.Goals as goal

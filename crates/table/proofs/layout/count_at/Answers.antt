@@ -1,5 +1,5 @@
 -- `layout::count_at` meets its contract.
-use Rattle.std.proofs.Common.{sym, ◌∙◌, arith, rules}
+use Rattle.std.proofs.Common.{sym, ◌∙◌, arith}
 use Rattle.table.proofs.Counts.{count_whole, count_short}
 use Rattle.table.proofs.layout.count_at.Goals as goal
 

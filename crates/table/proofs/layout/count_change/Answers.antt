@@ -1,5 +1,5 @@
 -- `layout::count_change` meets its contract.
-use Rattle.std.proofs.Common.{ℕ, ap, ◌∙◌, rules}
+use Rattle.std.proofs.Common.{ℕ, ap, ◌∙◌}
 use Rattle.model.specs.Bytes.{bytes}
 use Rattle.model.specs.Store.{next_generation}
 use Rattle.word.specs.Place.{placed}

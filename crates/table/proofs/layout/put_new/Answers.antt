@@ -1,12 +1,12 @@
 -- `table::layout::put_new` meets its contract: the limits are written, and behind them zeros.
-use Rattle.std.proofs.Common.{◌≡◌, ℕ, ◌+◌, [], ◌∷◌, length, replicate, sym, ◌∙◌, arith, rules}
+use Rattle.std.proofs.Common.{ℕ, ◌+◌, [], ◌∷◌, length, replicate, sym, ◌∙◌, arith}
 use borrow.Author.Tests.{lt-leb}
 use lib.ListN.{length-replicate}
 use lib.Seq.{sets, lt-length-sets, sets-eq}
 use Rattle.model.specs.Rules.{Rules}
 use Rattle.word.proofs.Places.{placed_there}
 use Rattle.word.proofs.Writes.{Wrote, wrote_put, placed_short, same_length}
-use Rattle.table.specs.Layout.{table_size, zone_limit_place, zone_count_place, new_bytes, new_table}
+use Rattle.table.specs.Layout.{zone_limit_place, zone_count_place, new_bytes, new_table}
 use Rattle.table.proofs.Made.{length_new}
 use Rattle.table.proofs.layout.put_new.Goals as goal
 

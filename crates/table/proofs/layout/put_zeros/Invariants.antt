@@ -1,8 +1,6 @@
 -- `table::layout::put_zeros` meets its contract: the bytes from the counts up to i are zeros.
-use Rattle.std.proofs.Common.{◌≡◌, ℕ, ◌+◌, ◌-◌, ◌≤◌, set, replicate, refl, ap, ◌∙◌, arith}
-use lib.ListN.{length-replicate, replicate-append-replicate}
-use Rattle.word.specs.Place.{put}
-use Rattle.word.proofs.Writes.{Wrote, wrote_none, wrote_byte, wrote_as, same_length}
+use Rattle.std.proofs.Common.{◌-◌, ◌≤◌, replicate}
+use Rattle.word.proofs.Writes.{Wrote}
 use Rattle.table.specs.Layout.{table_size, zone_count_place}
 use Rattle.table.proofs.layout.put_zeros.Given as goal
 

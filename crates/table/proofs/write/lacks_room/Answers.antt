@@ -1,5 +1,5 @@
 -- `write::lacks_room` meets its contract.
-use Rattle.std.proofs.Common.{◌≡◌, ℕ, ◌+◌, ◌-◌, ◌≤◌, ltb, length, sym, ap, ◌∙◌, arith, rules, ltb-false, ltb-true, le-ltb, lt-ltb}
+use Rattle.std.proofs.Common.{◌≡◌, ℕ, ◌+◌, ◌-◌, ◌≤◌, ltb, length, sym, ap, ◌∙◌, arith, ltb-false, ltb-true, le-ltb, lt-ltb}
 use Rattle.model.specs.Bytes.{zones_bytes}
 use Rattle.model.proofs.Facts.{by_test}
 use Rattle.table.specs.Layout.{zones_in}

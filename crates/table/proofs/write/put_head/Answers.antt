@@ -1,5 +1,5 @@
 -- `write::put_head` meets its contract.
-use Rattle.std.proofs.Common.{◌≡◌, ℕ, ◌+◌, ◌<◌, Bool, true, false, cond, get_or, take, drop, set, sym, refl, ap, ◌∙◌, arith, rules}
+use Rattle.std.proofs.Common.{◌≡◌, ℕ, ◌+◌, ◌<◌, Bool, true, false, cond, get_or, take, drop, set, sym, refl, ap, ◌∙◌, arith}
 use Rattle.word.specs.Place.{put}
 use Rattle.word.proofs.Writes.{Wrote, wrote_none, wrote_put, wrote_byte}
 use Rattle.table.specs.Layout.{mark_at}

@@ -1,5 +1,5 @@
 -- `write::put_record` meets its contract.
-use Rattle.std.proofs.Common.{◌≡◌, ◌+◌, length, arith, length-append, rules}
+use Rattle.std.proofs.Common.{◌≡◌, ◌+◌, length, arith, length-append}
 use Rattle.model.specs.Lists.{Lists}
 use Rattle.model.specs.Bytes.{zones_bytes, windows_bytes, record_bytes}
 use Rattle.word.proofs.Writes.{Wrote, wrote_none, wrote_put, same_length}

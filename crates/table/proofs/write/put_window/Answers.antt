@@ -1,5 +1,5 @@
 -- `write::put_window` meets its contract.
-use Rattle.std.proofs.Common.{◌≡◌, ℕ, List, ◌+◌, ◌≤◌, ◌++◌, length, take, drop, sym, ap, ◌∙◌, arith, length-append, length-drop, length-take-le, rules}
+use Rattle.std.proofs.Common.{◌≡◌, ℕ, List, ◌+◌, ◌≤◌, ◌++◌, length, take, drop, sym, ap, ◌∙◌, arith, length-append, length-drop, length-take-le}
 use Rattle.model.specs.Bytes.{window_bytes}
 use Rattle.word.specs.Place.{put}
 use Rattle.word.proofs.Writes.{Wrote, wrote_none, wrote_put, wrote_as, same_length}

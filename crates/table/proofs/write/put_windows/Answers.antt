@@ -1,12 +1,12 @@
 -- `write::put_windows` meets its contract: the first `i` entries are written, behind their count.
-use Rattle.std.proofs.Common.{◌≡◌, ◌+◌, ◌-◌, ◌≤◌, length, set, sym, ◌∙◌, arith, length-set, rules}
+use Rattle.std.proofs.Common.{◌≡◌, ◌+◌, ◌≤◌, length, set, sym, ◌∙◌, arith, length-set}
 use Rattle.model.specs.Bytes.{window_bytes, windows_bytes, all_bytes}
 use Rattle.word.proofs.Writes as writes
-use Rattle.table.specs.Layout.{window_count_place, window_place, window_at, window_count, windows_in}
+use Rattle.table.specs.Layout.{window_count_place, window_place, window_at, windows_in}
 use Rattle.table.proofs.Counts.{count_most}
 use Rattle.table.proofs.Held.{blank_window}
 use Rattle.table.proofs.Listed.{window_listed_lem, window_entry_lem, window_section_long}
-use Rattle.table.proofs.Sections.{Going, going_start, next_room, going_more, going_end}
+use Rattle.table.proofs.Sections.{going_start, next_room, going_more, going_end}
 use Rattle.table.proofs.write.put_windows.Goals as goal
 
 pub overflow_cast-out : goal.overflow_cast-out
@@ -44,7 +44,7 @@ pub put_window-next-requires : goal.put_window-next-requires
 put_window-next-requires c =
     let room : c.args.at + (1 + length (all_bytes window_bytes (windows_in c.args.table.now))) ≤ length c.args.out.now = omega (arith, c.requires.1, window_section_long c.args.table.now) in
     let few : c.window_count-n.result ≤ 16 = omega (arith, c.window_count-n.ensures, count_most window_count_place 16 c.args.table.now) in
-    let lengths :  let a = c.args in (length (set a.out.now a.at c.window_count-n.result) ≡ length a.out.now) × (length c.loop-i.out ≡ length a.out.now) = let a = c.args in
+    let lengths : let a = c.args in (length (set a.out.now a.at c.window_count-n.result) ≡ length a.out.now) × (length c.loop-i.out ≡ length a.out.now) = let a = c.args in
     let e = length-set a.out.now a.at c.window_count-n.result in
     (e, writes.same_length c.loop-i.invariant.2.wrote ∙ e) in
     let a = c.args in
@@ -56,7 +56,7 @@ put_window-next-requires c =
 pub loop-i-preserved : goal.loop-i-preserved
 loop-i-preserved c =
     let room : c.args.at + (1 + length (all_bytes window_bytes (windows_in c.args.table.now))) ≤ length c.args.out.now = omega (arith, c.requires.1, window_section_long c.args.table.now) in
-    let lengths :  let a = c.args in (length (set a.out.now a.at c.window_count-n.result) ≡ length a.out.now) × (length c.loop-i.out ≡ length a.out.now) = let a = c.args in
+    let lengths : let a = c.args in (length (set a.out.now a.at c.window_count-n.result) ≡ length a.out.now) × (length c.loop-i.out ≡ length a.out.now) = let a = c.args in
     let e = length-set a.out.now a.at c.window_count-n.result in
     (e, writes.same_length c.loop-i.invariant.2.wrote ∙ e) in
     let a = c.args in
@@ -72,7 +72,7 @@ loop-i-preserved c =
 
 pub shape_of-out : goal.shape_of-out
 shape_of-out c =
-    let lengths :  let a = c.args in (length (set a.out.now a.at c.window_count-n.result) ≡ length a.out.now) × (length c.loop-i.out ≡ length a.out.now) = let a = c.args in
+    let lengths : let a = c.args in (length (set a.out.now a.at c.window_count-n.result) ≡ length a.out.now) × (length c.loop-i.out ≡ length a.out.now) = let a = c.args in
     let e = length-set a.out.now a.at c.window_count-n.result in
     (e, writes.same_length c.loop-i.invariant.2.wrote ∙ e) in
     lengths.1

@@ -1,12 +1,8 @@
 -- `write::put_windows` meets its contract: the first `i` entries are written, behind their count.
-use Rattle.std.proofs.Common.{◌≡◌, ◌+◌, ◌-◌, ◌≤◌, length, set, sym, ◌∙◌, arith, length-set, rules}
-use Rattle.model.specs.Bytes.{window_bytes, windows_bytes, all_bytes}
-use Rattle.word.proofs.Writes as writes
-use Rattle.table.specs.Layout.{window_count_place, window_place, window_at, window_count, windows_in}
-use Rattle.table.proofs.Counts.{count_most}
-use Rattle.table.proofs.Held.{blank_window}
-use Rattle.table.proofs.Listed.{window_listed_lem, window_entry_lem, window_section_long}
-use Rattle.table.proofs.Sections.{Going, going_start, next_room, going_more, going_end}
+use Rattle.std.proofs.Common.{◌≡◌, ◌+◌, ◌-◌, ◌≤◌}
+use Rattle.model.specs.Bytes.{window_bytes}
+use Rattle.table.specs.Layout.{window_count, windows_in}
+use Rattle.table.proofs.Sections.{Going}
 use Rattle.table.proofs.write.put_windows.Given as goal
 
 abbrev pub invariant-loop-i : goal.invariant-loop-i

@@ -1,5 +1,5 @@
 -- `write::put_zone` meets its contract.
-use Rattle.std.proofs.Common.{◌≡◌, ℕ, ◌+◌, ◌≤◌, min, List, [], ◌∷◌, ◌++◌, length, take, drop, set, sym, refl, ap, ◌∙◌, arith, length-append, length-drop, length-take-le, rules}
+use Rattle.std.proofs.Common.{◌≡◌, ℕ, ◌+◌, ◌≤◌, min, List, [], ◌∷◌, ◌++◌, length, take, drop, set, sym, refl, ap, ◌∙◌, arith, length-append, length-drop, length-take-le}
 use Rattle.model.specs.Bytes.{zone_bytes}
 use Rattle.word.specs.Place.{put}
 use Rattle.word.proofs.Writes.{Wrote, wrote_none, wrote_put, wrote_byte, wrote_as}
@@ -59,7 +59,7 @@ copy-requires c =
     } in
     let head : let a = c.args in Wrote a.out.now a.at (head_bytes a.table.now a.place) c.put_head.new.out = let a = c.args in
     wrote_put (wrote_none (omega (arith, c.requires.1))) _ a.at _ (omega arith) (omega (arith, c.requires.1, long, zone_least (zone_at a.table.now a.place))) c.put_head.ensures.1 in
-    let numbered :  let a = c.args in Wrote a.out.now a.at (head_bytes a.table.now a.place ++ (c.least-n.result ∷ [])) (set c.put_head.new.out (a.at + 13) c.least-n.result) = wrote_byte head c.least-n.result (c.args.at + 13) _ (omega (arith, long)) (omega (arith, c.requires.1, named.whole)) refl in
+    let numbered : let a = c.args in Wrote a.out.now a.at (head_bytes a.table.now a.place ++ (c.least-n.result ∷ [])) (set c.put_head.new.out (a.at + 13) c.least-n.result) = wrote_byte head c.least-n.result (c.args.at + 13) _ (omega (arith, long)) (omega (arith, c.requires.1, named.whole)) refl in
     let f = named in
     (omega (arith, c.requires.0, f.few), omega (arith, c.requires.1, f.whole, writes.same_length numbered))
 
@@ -81,7 +81,7 @@ shape_of-out-then-put_head c =
     } in
     let head : let a = c.args in Wrote a.out.now a.at (head_bytes a.table.now a.place) c.put_head.new.out = let a = c.args in
     wrote_put (wrote_none (omega (arith, c.requires.1))) _ a.at _ (omega arith) (omega (arith, c.requires.1, long, zone_least (zone_at a.table.now a.place))) c.put_head.ensures.1 in
-    let numbered :  let a = c.args in Wrote a.out.now a.at (head_bytes a.table.now a.place ++ (c.least-n.result ∷ [])) (set c.put_head.new.out (a.at + 13) c.least-n.result) = wrote_byte head c.least-n.result (c.args.at + 13) _ (omega (arith, long)) (omega (arith, c.requires.1, named.whole)) refl in
+    let numbered : let a = c.args in Wrote a.out.now a.at (head_bytes a.table.now a.place ++ (c.least-n.result ∷ [])) (set c.put_head.new.out (a.at + 13) c.least-n.result) = wrote_byte head c.least-n.result (c.args.at + 13) _ (omega (arith, long)) (omega (arith, c.requires.1, named.whole)) refl in
     let all : let a = c.args in Wrote a.out.now a.at (zone_bytes (zone_at a.table.now a.place)) c.copy.new.out = let a = c.args in
     let f = named in
     let n = c.least-n.result in
@@ -108,7 +108,7 @@ returns-then-put_head c =
     } in
     let head : let a = c.args in Wrote a.out.now a.at (head_bytes a.table.now a.place) c.put_head.new.out = let a = c.args in
     wrote_put (wrote_none (omega (arith, c.requires.1))) _ a.at _ (omega arith) (omega (arith, c.requires.1, long, zone_least (zone_at a.table.now a.place))) c.put_head.ensures.1 in
-    let numbered :  let a = c.args in Wrote a.out.now a.at (head_bytes a.table.now a.place ++ (c.least-n.result ∷ [])) (set c.put_head.new.out (a.at + 13) c.least-n.result) = wrote_byte head c.least-n.result (c.args.at + 13) _ (omega (arith, long)) (omega (arith, c.requires.1, named.whole)) refl in
+    let numbered : let a = c.args in Wrote a.out.now a.at (head_bytes a.table.now a.place ++ (c.least-n.result ∷ [])) (set c.put_head.new.out (a.at + 13) c.least-n.result) = wrote_byte head c.least-n.result (c.args.at + 13) _ (omega (arith, long)) (omega (arith, c.requires.1, named.whole)) refl in
     let all : let a = c.args in Wrote a.out.now a.at (zone_bytes (zone_at a.table.now a.place)) c.copy.new.out = let a = c.args in
     let f = named in
     let n = c.least-n.result in

@@ -1,5 +1,5 @@
 -- `write::record` meets its contract.
-use Rattle.std.proofs.Common.{◌≡◌, ℕ, ◌+◌, ◌-◌, Bool, true, false, cond, leb, List, ◌++◌, length, drop, replicate, sym, refl, ap, ◌∙◌, arith, rules, le-leb}
+use Rattle.std.proofs.Common.{◌≡◌, ℕ, ◌+◌, ◌-◌, Bool, true, false, cond, leb, List, ◌++◌, length, drop, replicate, sym, refl, ap, ◌∙◌, arith, le-leb}
 use borrow.Author.Tests.{lt-leb}
 use Rattle.model.specs.Lists.{Lists, empty}
 use Rattle.model.specs.Bytes.{zones_bytes, windows_bytes, record_bytes, all_bytes}

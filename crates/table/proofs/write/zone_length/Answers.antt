@@ -1,5 +1,5 @@
 -- `write::zone_length` meets its contract.
-use Rattle.std.proofs.Common.{◌≡◌, ℕ, ◌+◌, sym, ap, arith, rules}
+use Rattle.std.proofs.Common.{◌≡◌, ℕ, ◌+◌, sym, ap, arith}
 use Rattle.word.specs.Place.{byte_at}
 use Rattle.table.specs.Layout.{zone_place}
 use Rattle.table.proofs.Bounds.{unnamed_long, named_long, name_long}

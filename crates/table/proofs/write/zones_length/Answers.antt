@@ -1,8 +1,8 @@
 -- `write::zones_length` meets its contract.
-use Rattle.std.proofs.Common.{◌≡◌, ◌+◌, ◌-◌, ◌*◌, ◌≤◌, length, get_or, take, sym, ap, ◌∙◌, arith, length-append, take_all, rules}
+use Rattle.std.proofs.Common.{◌+◌, length, get_or, take, sym, ap, ◌∙◌, arith, length-append, take_all}
 use Rattle.model.specs.Bytes.{zone_bytes, all_bytes}
 use Rattle.word.proofs.Writes.{all_more}
-use Rattle.table.specs.Layout.{zone_count_place, zone_place, zone_count, zones_in}
+use Rattle.table.specs.Layout.{zone_count_place, zone_place, zones_in}
 use Rattle.table.proofs.Held.{blank_zone}
 use Rattle.table.proofs.Counts.{count_most, zone_stands}
 use Rattle.table.proofs.Bounds.{zone_most}

@@ -1,12 +1,7 @@
 -- `write::zones_length` meets its contract.
-use Rattle.std.proofs.Common.{◌≡◌, ◌+◌, ◌-◌, ◌*◌, ◌≤◌, length, get_or, take, sym, ap, ◌∙◌, arith, length-append, take_all, rules}
+use Rattle.std.proofs.Common.{◌≡◌, ◌+◌, ◌-◌, ◌*◌, ◌≤◌, length, take}
 use Rattle.model.specs.Bytes.{zone_bytes, all_bytes}
-use Rattle.word.proofs.Writes.{all_more}
-use Rattle.table.specs.Layout.{zone_count_place, zone_place, zone_count, zones_in}
-use Rattle.table.proofs.Held.{blank_zone}
-use Rattle.table.proofs.Counts.{count_most, zone_stands}
-use Rattle.table.proofs.Bounds.{zone_most}
-use Rattle.table.proofs.Listed.{zone_listed_lem, zone_entry_lem, zone_section_long}
+use Rattle.table.specs.Layout.{zone_count, zones_in}
 use Rattle.table.proofs.write.zones_length.Given as goal
 
 abbrev pub invariant-loop-i : goal.invariant-loop-i

@@ -1,6 +1,5 @@
 -- `time_sync_client::Granularity::or_seconds` meets its contract: what `granularity_of` reads decides, and a number that names none counts as Seconds.
 use mathlib.Core.Path.{sym}
-use borrow.Author.Rules.{rules}
 use Rattle.time_sync_client.proofs.Granularity.or_seconds.Goals as goal
 
 pub returns-in-Is : goal.returns-in-Is

@@ -1,5 +1,4 @@
 -- `time_sync_client::Outcome::refreshed` meets its contract: each arm is given which constructor the outcome is.
-use borrow.Author.Rules.{rules}
 use Rattle.model.specs.Retries.{refresh}
 use Rattle.time_sync_client.proofs.Outcome.refreshed.Goals as goal
 

@@ -1,6 +1,5 @@
 -- `time_sync_client::Reading::refreshed` meets its contract: the arms are those of `refresh_told`.
 use mathlib.Core.Path.{sym}
-use borrow.Author.Rules.{rules}
 use Rattle.time_sync_client.proofs.Reading.refreshed.Goals as goal
 
 pub returns-in-Minutes : goal.returns-in-Minutes

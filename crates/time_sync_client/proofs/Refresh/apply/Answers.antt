@@ -1,5 +1,4 @@
 -- `time_sync_client::Refresh::apply` meets its contract: only a time touches the clock.
-use borrow.Author.Rules.{rules}
 use Rattle.time_sync_client.proofs.Refresh.apply.Goals as goal
 
 pub returns-in-Applied : goal.returns-in-Applied

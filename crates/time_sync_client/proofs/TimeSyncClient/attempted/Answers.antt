@@ -1,5 +1,4 @@
 -- `time_sync_client::TimeSyncClient::attempted` meets its contract: each part of the step is the one of `attempt_of`.
-use borrow.Author.Rules.{rules}
 use Rattle.model.specs.Retries.{events_of, attempt_of}
 use Rattle.time_sync_client.proofs.TimeSyncClient.attempted.Goals as goal
 

@@ -1,5 +1,4 @@
 -- `time_sync_client::TimeSyncClient::new` meets its contract: the retry is the first one.
-use borrow.Author.Rules.{rules}
 use Rattle.time_sync_client.proofs.TimeSyncClient.new.Goals as goal
 
 pub returns : goal.returns

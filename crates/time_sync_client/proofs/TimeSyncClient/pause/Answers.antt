@@ -1,6 +1,5 @@
 -- `time_sync_client::TimeSyncClient::pause` meets its contract: each arm is given what the attempt got.
 use mathlib.Core.Path.{refl}
-use borrow.Author.Rules.{rules}
 use Rattle.time_sync_client.proofs.TimeSyncClient.pause.Goals as goal
 
 pub returns-in-Applied : goal.returns-in-Applied

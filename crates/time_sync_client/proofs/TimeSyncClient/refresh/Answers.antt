@@ -1,5 +1,4 @@
 -- `time_sync_client::TimeSyncClient::refresh` meets its contract: each arm is given whether there is a source.
-use borrow.Author.Rules.{rules}
 use Rattle.model.specs.Retries.{refresh}
 use Rattle.time_sync_client.proofs.TimeSyncClient.refresh.Goals as goal
 

@@ -1,5 +1,4 @@
 -- `time_sync_client::TimeSyncClient::source_changed` meets its contract: whether there is a source decides what comes next.
-use borrow.Author.Rules.{rules}
 use Rattle.model.specs.Retries.{source_changed}
 use Rattle.time_sync_client.proofs.TimeSyncClient.source_changed.Goals as goal
 

@@ -1,6 +1,5 @@
 -- `transition_timer::due::alike` meets its contract: each offset comes back from its bits.
 use mathlib.Core.Path.{◌≡◌, ap, ◌∙◌}
-use borrow.Author.Rules.{rules}
 use lib.IntN.{ℤ}
 use mir.Syntax.{w32}
 use mir.Facts.{to_z-of_z}

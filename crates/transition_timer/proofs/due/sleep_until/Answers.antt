@@ -1,5 +1,4 @@
 -- `transition_timer::due::sleep_until` meets its contract: `until_past` answers the microseconds.
-use borrow.Author.Rules.{rules}
 use Rattle.transition_timer.proofs.due.sleep_until.Goals as goal
 
 pub returns-in-Is : goal.returns-in-Is

@@ -1,5 +1,4 @@
 -- `transition_timer::due::zone_due` meets its contract: at a later look the two offsets decide.
-use borrow.Author.Rules.{rules}
 use Rattle.transition_timer.proofs.due.zone_due.Goals as goal
 
 pub returns : goal.returns

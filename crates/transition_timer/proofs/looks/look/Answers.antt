@@ -1,5 +1,4 @@
 -- `transition_timer::looks::look` meets its contract: each arm is given which reading it is, at which `look_by` computes.
-use borrow.Author.Rules.{rules}
 use borrow.Author.Tests.{not-true, not-false}
 use Rattle.transition_timer.specs.Meaning.{look_by}
 use Rattle.transition_timer.proofs.looks.look.Goals as goal

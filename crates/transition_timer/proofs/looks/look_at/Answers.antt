@@ -3,7 +3,6 @@ use mathlib.Core.Bool.{Bool, ◌&&◌, cond}
 use mathlib.Core.Option.{Option}
 use mathlib.Core.Path.{◌≡◌, ap, ◌∙◌}
 use Prim.Native.Nat.{ℕ}
-use borrow.Author.Rules.{rules}
 use lib.IntN.{ℤ}
 use Rattle.model.specs.declared.MaybeU64.{MaybeU64}
 use Rattle.model.specs.declared.MaybeI32.{MaybeI32}

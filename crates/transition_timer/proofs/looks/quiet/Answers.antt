@@ -1,5 +1,4 @@
 -- `transition_timer::looks::quiet` meets its contract: the zone is the blank one.
-use borrow.Author.Rules.{rules}
 use Rattle.transition_timer.proofs.looks.quiet.Goals as goal
 
 pub returns : goal.returns

@@ -1,8 +1,7 @@
-
 use mathlib.Core.List.{List}
 use mathlib.Core.Path.{◌≡◌}
 use native.Mathlib.Omega.{arith}
-use Prim.Native.Nat.{ℕ, ◌≤◌, ◌-◌, ◌+◌, ◌*◌}
+use Prim.Native.Nat.{ℕ, ◌≤◌, ◌+◌, ◌*◌}
 use lib.ListN.{length, take, set, length-take, length-set}
 use borrow.Author.Rules.{rules}
 use Rattle.vectors.proofs.text.hex.Goals as goal
@@ -16,12 +15,12 @@ returns-then-s-i-lt2 c = (search rules, counted c.loop-n.n c.loop-n.out (search 
 
 pub loop-n-smaller : goal.loop-n-smaller
 loop-n-smaller c =
-    let stored :  length (set c.loop-n.out c.loop-n.n (c.digit-high.result * 16 + c.digit-low.result)) ≡ length c.loop-n.out = length-set c.loop-n.out c.loop-n.n (c.digit-high.result * 16 + c.digit-low.result) in
+    let stored : length (set c.loop-n.out c.loop-n.n (c.digit-high.result * 16 + c.digit-low.result)) ≡ length c.loop-n.out = length-set c.loop-n.out c.loop-n.n (c.digit-high.result * 16 + c.digit-low.result) in
     omega (arith, stored)
 
 pub loop-n-preserved : goal.loop-n-preserved
 loop-n-preserved c =
-    let stored :  length (set c.loop-n.out c.loop-n.n (c.digit-high.result * 16 + c.digit-low.result)) ≡ length c.loop-n.out = length-set c.loop-n.out c.loop-n.n (c.digit-high.result * 16 + c.digit-low.result) in
+    let stored : length (set c.loop-n.out c.loop-n.n (c.digit-high.result * 16 + c.digit-low.result)) ≡ length c.loop-n.out = length-set c.loop-n.out c.loop-n.n (c.digit-high.result * 16 + c.digit-low.result) in
     (search rules, omega (arith, stored), omega (arith, stored))
 
 pub returns : goal.returns

@@ -1,7 +1,6 @@
 -- `word::held::u16_at` meets its contract.
 use mathlib.Core.Path.{◌∙◌}
 use native.Mathlib.Omega.{arith}
-use borrow.Author.Rules.{rules}
 use Rattle.word.proofs.Spelling.{two}
 use Rattle.word.proofs.held.u16_at.Goals as goal
 

@@ -1,6 +1,5 @@
 -- `word::or_zero::put_u16` meets its contract.
 use mathlib.Core.Path.{sym, ◌∙◌}
-use borrow.Author.Rules.{rules}
 use Rattle.word.proofs.Places.{fitting, placed_is, placed_none}
 use Rattle.word.proofs.or_zero.put_u16.Goals as goal
 

@@ -1,6 +1,5 @@
 -- `word::or_zero::u64_at` meets its contract.
 use mathlib.Core.Path.{sym, ◌∙◌}
-use borrow.Author.Rules.{rules}
 use Rattle.word.proofs.Places.{fitting, word_is, word_none}
 use Rattle.word.proofs.or_zero.u64_at.Goals as goal
 

@@ -1,7 +1,6 @@
 -- `word::or_zero::u8_at` meets its contract.
 use mathlib.Core.Path.{sym}
 use native.Mathlib.Omega.{arith}
-use borrow.Author.Rules.{rules}
 use lib.ListN.{get_or-eq_default}
 use Rattle.word.proofs.or_zero.u8_at.Goals as goal
 

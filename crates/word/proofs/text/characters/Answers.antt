@@ -1,9 +1,8 @@
 -- `word::text::characters` meets its contract. The invariant: s is well formed where what is left of it goes on the character that was begun.
-use Prim.Native.Nat.{ℕ, ◌≤◌, ◌+◌, ◌-◌}
+use Prim.Native.Nat.{ℕ, ◌+◌, ◌-◌}
 use mathlib.Core.Path.{◌≡◌, refl, sym, ap, ◌∙◌}
 use native.Mathlib.Omega.{arith}
-use borrow.Author.Rules.{rules}
-use lib.ListN.{length, drop, get_or, drop_of_length-le}
+use lib.ListN.{drop, get_or, drop_of_length-le}
 use mathlib.Core.Bool.{◌&&◌}
 use mathlib.Core.List.{List}
 use Rattle.model.specs.Bytes.{◌··◌, within, follow, goes_on, well_formed}
@@ -17,7 +16,7 @@ loop-i-init c = (omega arith, refl)
 
 pub returns-in-Bad : goal.returns-in-Bad
 returns-in-Bad c =
-    let started :  let s = c.args.s.now in well_formed s ≡ follow (follows c.start.result) (goes_on (drop (c.loop-i.i + 1) s)) = let s = c.args.s.now in
+    let started : let s = c.args.s.now in well_formed s ≡ follow (follows c.start.result) (goes_on (drop (c.loop-i.i + 1) s)) = let s = c.args.s.now in
     let i = c.loop-i.i in
     c.loop-i.invariant.1 ∙ head_is s i (due c.loop-i.left c.loop-i.lo c.loop-i.hi) (omega arith)
     ∙ first_byte (get_or s i 0) (drop (i + 1) s) c.loop-i.left c.loop-i.lo c.loop-i.hi c.if-left-eq0.true c.start.ensures in
@@ -26,7 +25,7 @@ returns-in-Bad c =
 
 pub loop-i-preserved-in-Due : goal.loop-i-preserved-in-Due
 loop-i-preserved-in-Due c =
-    let started :  let s = c.args.s.now in well_formed s ≡ follow (follows c.start.result) (goes_on (drop (c.loop-i.i + 1) s)) = let s = c.args.s.now in
+    let started : let s = c.args.s.now in well_formed s ≡ follow (follows c.start.result) (goes_on (drop (c.loop-i.i + 1) s)) = let s = c.args.s.now in
     let i = c.loop-i.i in
     c.loop-i.invariant.1 ∙ head_is s i (due c.loop-i.left c.loop-i.lo c.loop-i.hi) (omega arith)
     ∙ first_byte (get_or s i 0) (drop (i + 1) s) c.loop-i.left c.loop-i.lo c.loop-i.hi c.if-left-eq0.true c.start.ensures in
@@ -35,7 +34,7 @@ loop-i-preserved-in-Due c =
 
 pub returns-then-b-lo : goal.returns-then-b-lo
 returns-then-b-lo c =
-    let went :  let s = c.args.s.now in well_formed s ≡ within (c.loop-i.lo ·· c.loop-i.hi) (get_or s c.loop-i.i 0) && goes_on (drop (c.loop-i.i + 1) s) (due (c.loop-i.left - 1) 0x80 0xBF) = let s = c.args.s.now in
+    let went : let s = c.args.s.now in well_formed s ≡ within (c.loop-i.lo ·· c.loop-i.hi) (get_or s c.loop-i.i 0) && goes_on (drop (c.loop-i.i + 1) s) (due (c.loop-i.left - 1) 0x80 0xBF) = let s = c.args.s.now in
     let i = c.loop-i.i in
     c.loop-i.invariant.1 ∙ head_is s i (due c.loop-i.left c.loop-i.lo c.loop-i.hi) (omega arith)
     ∙ next_byte (get_or s i 0) (drop (i + 1) s) c.loop-i.left c.loop-i.lo c.loop-i.hi c.if-left-eq0.false in
@@ -43,7 +42,7 @@ returns-then-b-lo c =
 
 pub returns-then-hi-b : goal.returns-then-hi-b
 returns-then-hi-b c =
-    let went :  let s = c.args.s.now in well_formed s ≡ within (c.loop-i.lo ·· c.loop-i.hi) (get_or s c.loop-i.i 0) && goes_on (drop (c.loop-i.i + 1) s) (due (c.loop-i.left - 1) 0x80 0xBF) = let s = c.args.s.now in
+    let went : let s = c.args.s.now in well_formed s ≡ within (c.loop-i.lo ·· c.loop-i.hi) (get_or s c.loop-i.i 0) && goes_on (drop (c.loop-i.i + 1) s) (due (c.loop-i.left - 1) 0x80 0xBF) = let s = c.args.s.now in
     let i = c.loop-i.i in
     c.loop-i.invariant.1 ∙ head_is s i (due c.loop-i.left c.loop-i.lo c.loop-i.hi) (omega arith)
     ∙ next_byte (get_or s i 0) (drop (i + 1) s) c.loop-i.left c.loop-i.lo c.loop-i.hi c.if-left-eq0.false in
@@ -51,7 +50,7 @@ returns-then-hi-b c =
 
 pub loop-i-preserved : goal.loop-i-preserved
 loop-i-preserved c =
-    let went :  let s = c.args.s.now in well_formed s ≡ within (c.loop-i.lo ·· c.loop-i.hi) (get_or s c.loop-i.i 0) && goes_on (drop (c.loop-i.i + 1) s) (due (c.loop-i.left - 1) 0x80 0xBF) = let s = c.args.s.now in
+    let went : let s = c.args.s.now in well_formed s ≡ within (c.loop-i.lo ·· c.loop-i.hi) (get_or s c.loop-i.i 0) && goes_on (drop (c.loop-i.i + 1) s) (due (c.loop-i.left - 1) 0x80 0xBF) = let s = c.args.s.now in
     let i = c.loop-i.i in
     c.loop-i.invariant.1 ∙ head_is s i (due c.loop-i.left c.loop-i.lo c.loop-i.hi) (omega arith)
     ∙ next_byte (get_or s i 0) (drop (i + 1) s) c.loop-i.left c.loop-i.lo c.loop-i.hi c.if-left-eq0.false in

@@ -1,11 +1,8 @@
 -- `word::text::plain` meets its contract: the bytes in front of i are below 0x80.
 use mathlib.Core.Path.{◌≡◌}
-use Prim.Native.Nat.{ℕ, ◌+◌, ◌-◌, ◌≤◌}
-use native.Mathlib.Omega.{arith}
-use borrow.Author.Tests.{not-true, not-false}
+use Prim.Native.Nat.{◌+◌, ◌-◌, ◌≤◌}
 use lib.ListN.{length}
 use Rattle.word.specs.Plain.{PlainFrom}
-use Rattle.word.proofs.Plain.{further}
 use Rattle.word.proofs.text.plain.Given as goal
 
 abbrev pub invariant-loop-i : goal.invariant-loop-i

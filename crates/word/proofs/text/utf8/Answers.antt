@@ -1,7 +1,5 @@
 -- `word::text::utf8` meets its contract: text of plain bytes is well formed.
 use mathlib.Core.Path.{sym}
-use native.Mathlib.Omega.{arith}
-use borrow.Author.Rules.{rules}
 use Rattle.word.proofs.Plain.{plain_text}
 use Rattle.word.proofs.text.utf8.Goals as goal
 
