@@ -60,7 +60,7 @@ class Order(unittest.TestCase):
     def test_of_this_repository(self):
         order = program.proof_order(CRATES.read_text("utf-8"), "schedule")
         self.assertEqual(order, ["model", "word", "record", "rules", "table", "lookups", "text", "schedule_text",
-                                 "streams", "schedule"])
+                                 "schedule"])
 
     def test_by_hand(self):
         text = "# crates\n\nlast: a c kit  # and no more\nc: b\nb:\na: b\nother staticlib: last\n"
