@@ -103,15 +103,14 @@ fn put_record(out: &mut [u8], table: &[u8]) -> usize
 pub fn record(table: &[u8]) -> Record
     ensures { result ≡ record_of (if nat_le table_size (length table.now) then lists_in table.now else empty) }
 {
-    let mut out = [0u8; 962];
-    if table.len() < SIZE {
-        return Record {
-            bytes: out,
-            length: 2,
-        };
+    let mut made = Record {
+        bytes: [0u8; 962],
+        length: 2,
+    };
+    if SIZE <= table.len() {
+        made.length = put_record(&mut made.bytes, table);
     }
-    let length = put_record(&mut out, table);
-    Record { bytes: out, length }
+    made
 }
 
 // How many bytes the zone with index i is written as.

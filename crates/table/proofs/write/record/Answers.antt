@@ -23,19 +23,19 @@ blank : record { bytes = zeros 962; length = 2 } ≡ record_of empty
 unfolding record_of record_bytes zones_bytes windows_bytes all_bytes
 blank = refl
 
-pub returns-then-table-lt-SIZE : goal.returns-then-table-lt-SIZE
-returns-then-table-lt-SIZE c =
-    let s = c.args.table.now in
-    let f : leb table_size (length s) ≡ false = lt-leb table_size (length s) (omega arith) in
-    blank ∙ sym (ap (λ (b : Bool). record_of (cond b (lists_in s) empty)) f)
-
-pub put_record-length-requires : goal.put_record-length-requires
-put_record-length-requires c =
+pub put_record-requires : goal.put_record-requires
+put_record-requires c =
     let s = c.args.table.now in
     (omega arith, omega (arith, record_most_lem s, length_zeros 962))
 
-pub returns : goal.returns
-returns c =
+pub returns-then-table-ge-SIZE : goal.returns-then-table-ge-SIZE
+returns-then-table-ge-SIZE c =
     let s = c.args.table.now in
     let f : leb table_size (length s) ≡ true = le-leb table_size (length s) (omega arith) in
-    written (lists_in s) _ _ c.put_record-length.ensures.0 c.put_record-length.ensures.1 ∙ sym (ap (λ (b : Bool). record_of (cond b (lists_in s) empty)) f)
+    written (lists_in s) _ _ c.put_record.ensures.0 c.put_record.ensures.1 ∙ sym (ap (λ (b : Bool). record_of (cond b (lists_in s) empty)) f)
+
+pub returns-else-table-ge-SIZE : goal.returns-else-table-ge-SIZE
+returns-else-table-ge-SIZE c =
+    let s = c.args.table.now in
+    let f : leb table_size (length s) ≡ false = lt-leb table_size (length s) (omega arith) in
+    blank ∙ sym (ap (λ (b : Bool). record_of (cond b (lists_in s) empty)) f)
