@@ -1,7 +1,7 @@
 -- Every call on an image leaves one, with a list store or without, whatever its lists.
+use Rattle.std.specs.Prelude.{None, Some}
 use mathlib.Core.Bool.{Bool, true, false, cond}
 use mathlib.Core.List.{List, []}
-use mathlib.Core.Option.{none, some}
 use mathlib.Core.Path.{◌≡◌, ◌∙◌}
 use Prim.Native.Nat.{ℕ}
 use lib.ListN.{length}
@@ -28,8 +28,8 @@ module _ (s : List ℕ) (i : is_image s ≡ true) where
 pub call_leaves_image : CallLeavesImage
 call_leaves_image s (set_time_zone b room) i = table_kept s i (T.time_zone_left (table_in s) b room) (lengths_stay (table_in s) b room).time_zone
 call_leaves_image s (set_dst_offset b room) i = table_kept s i (T.dst_offset_left (table_in s) b room) (lengths_stay (table_in s) b room).dst_offset
-call_leaves_image s (load_lists none) i = i
-call_leaves_image s (load_lists (some b)) i = table_kept s i (T.load_left (table_in s) b) (lengths_stay (table_in s) b 0).load
+call_leaves_image s (load_lists None) i = i
+call_leaves_image s (load_lists (Some b)) i = table_kept s i (T.load_left (table_in s) b) (lengths_stay (table_in s) b 0).load
 call_leaves_image s reset_lists i = table_kept s i (T.reset_left (table_in s)) (lengths_stay (table_in s) [] 0).reset
 call_leaves_image s (set_utc_time_command utc granularity source tick) i = (call_kept s i (C.utc_time_set s utc granularity source tick)).image
 call_leaves_image s (set_trusted_time_source fabric named) i = (call_kept s i (C.source_set s fabric named)).image

@@ -1,7 +1,7 @@
 -- What a call leaves of an image with a list store: of the lists what the rules make of it.
+use Rattle.std.specs.Prelude.{None, Some}
 use mathlib.Core.Bool.{true}
 use mathlib.Core.List.{List, []}
-use mathlib.Core.Option.{none, some}
 use mathlib.Core.Path.{◌≡◌, refl, sym, ap, ◌∙◌}
 use Prim.Native.Nat.{ℕ}
 use native.Mathlib.Omega.{arith}
@@ -59,7 +59,7 @@ module _ (s : List ℕ) (i : is_image s ≡ true) where
       }
 
   -- calls that store nothing always have room
-  module _ (a : SizedCall) (q : stored_by (rules_in (table_in s)) (lists_of s) a.call ≡ none) where
+  module _ (a : SizedCall) (q : stored_by (rules_in (table_in s)) (lists_of s) a.call ≡ None) where
     roomy_call : store_after_sized (store_in (table_in s)) a ≡ store_after (store_in (table_in s)) a.call
     unfolding store_after_sized no_space
     roomy_call = rw q
@@ -86,10 +86,10 @@ module _ (s : List ℕ) (i : is_image s ≡ true) where
         (long (T.dst_offset_left (table_in s) b room) (lengths_stay (table_in s) b room).dst_offset) (dst_offset_follows (table_in s) b room (omega (arith, room_for)) c))
 
     load_left_lem : (b : List ℕ) → AreBytes b
-        → Left s (after_sized (rules_in (table_in s)) (lists_of s) (record { call = M.Load (some b); room = 0 })) (C.load_lists s (some b)).image
+        → Left s (after_sized (rules_in (table_in s)) (lists_of s) (record { call = M.Load (Some b); room = 0 })) (C.load_lists s (Some b)).image
     unfolding stored_by
     load_left_lem b c =
-        let a : SizedCall = record { call = M.Load (some b); room = 0 } in
+        let a : SizedCall = record { call = M.Load (Some b); room = 0 } in
         rw (i, m)
         (followed (T.load_left (table_in s) b) a (long (T.load_left (table_in s) b) (lengths_stay (table_in s) b 0).load)
         (load_follows (table_in s) b (omega (arith, room_for)) c ∙ sym (roomy_call a refl)))
@@ -103,7 +103,7 @@ module _ (s : List ℕ) (i : is_image s ≡ true) where
         (reset_follows (table_in s) (omega (arith, room_for)) ∙ sym (roomy_call a refl)))
 
   -- no record leaves the lists
-  nothing_loaded : Left s (after_sized (rules_in (table_in s)) (lists_of s) (record { call = M.Load none; room = 0 })) s
+  nothing_loaded : Left s (after_sized (rules_in (table_in s)) (lists_of s) (record { call = M.Load None; room = 0 })) s
   unfolding after_sized no_space stored_by M.after
   nothing_loaded = stays s i
 
@@ -149,8 +149,8 @@ pub next_left : (s : List ℕ) → is_image s ≡ true → has_lists s ≡ true 
 unfolding run
 next_left s i m (set_time_zone b room) h = time_zone_left_lem s i m b room h.0
 next_left s i m (set_dst_offset b room) h = dst_offset_left_lem s i m b room h.0
-next_left s i m (load_lists none) h = nothing_loaded s i
-next_left s i m (load_lists (some b)) h = load_left_lem s i m b h.0
+next_left s i m (load_lists None) h = nothing_loaded s i
+next_left s i m (load_lists (Some b)) h = load_left_lem s i m b h.0
 next_left s i m reset_lists h = reset_left_lem s i m
 next_left s i m (set_utc_time_command utc granularity source tick) h = call_kept s i (C.utc_time_set s utc granularity source tick)
 next_left s i m (set_trusted_time_source fabric named) h = call_kept s i (C.source_set s fabric named)

@@ -1,6 +1,5 @@
 -- Histories of calls at the entry points: what each leaves of the image, as its contract says.
-use Rattle.std.specs.Prelude.{List, [], ◌∷◌, ◌++◌, ℕ}
-use Rattle.std.proofs.Math.Option.{Option}
+use Rattle.std.specs.Prelude.{List, [], ◌∷◌, ◌++◌, ℕ, Option}
 use Rattle.model.specs.Basics.{run, All}
 use Rattle.model.specs.Answers.{TrustedSource}
 use Rattle.model.specs.Handler.{Named}

@@ -2,4 +2,5 @@
 pub mod Says
 pub mod Verdicts
 pub mod Told
+pub mod Stores
 pub mod Means

@@ -1,7 +1,7 @@
 -- The image that a call on the lists leaves stands for the device that the model's call leaves.
+use Rattle.std.specs.Prelude.{Option, None, Some}
 use mathlib.Core.Bool.{Bool, true, false, cond}
 use mathlib.Core.List.{List, []}
-use mathlib.Core.Option.{Option, none, some}
 use mathlib.Core.Path.{◌≡◌, refl, sym, ap, ◌∙◌}
 use Prim.Native.Nat.{ℕ, ◌≤◌}
 use native.Mathlib.Omega.{arith}
@@ -41,15 +41,15 @@ module _ (s : List ℕ) (i : is_image s ≡ true) where
   long = omega (arith, table_long s i)
 
   -- another table is another list store, and no more
-  device_left : (u : List ℕ) → length u ≡ length t → has_lists s ≡ true → device_in (table_left s u) ≡ record { clock = clock_in s; store = some (store_in u) }
+  device_left : (u : List ℕ) → length u ≡ length t → has_lists s ≡ true → device_in (table_left s u) ≡ record { clock = clock_in s; store = Some (store_in u) }
   device_left u l h =
       let w = table_written s u i (l ∙ table_long s i) in
       let k : clock_in (with_table s u) ≡ clock_in s = w.clock in
       ap device_in (left_there s u i h) ∙ ap (λ (c : Clock). record { clock = c; store = (device_in (with_table s u)).store }) k
-      ∙ ap (λ (o : Option Store). record { clock = clock_in s; store = o }) (store_there (with_table s u) (w.there ∙ h) ∙ ap (λ (x : List ℕ). some (store_in x)) w.table)
+      ∙ ap (λ (o : Option Store). record { clock = clock_in s; store = o }) (store_there (with_table s u) (w.there ∙ h) ∙ ap (λ (x : List ℕ). Some (store_in x)) w.table)
 
   -- the device as it was
-  same_device : has_lists s ≡ true → record { clock = clock_in s; store = some (store_in t) } ≡ d
+  same_device : has_lists s ≡ true → record { clock = clock_in s; store = Some (store_in t) } ≡ d
   same_device h = ap (λ (o : Option Store). record { clock = clock_in s; store = o }) (sym (store_there s h))
 
   module _ {A : Type 0} (call : Store → Result Store A) (left : List ℕ) (l : length left ≡ length t) (room : ℕ) where
@@ -57,7 +57,7 @@ module _ (s : List ℕ) (i : is_image s ≡ true) where
     commanded = record_roomy room d (asked_of s (H.command d d.store call))
 
     by_room : has_lists s ≡ true → (short : Bool) (r : Result Store A)
-        → record { clock = clock_in s; store = some (cond short (unchanged (store_in t) NoSpace) r).state } ≡ (cond short (unchanged d NoSpace) (of_store d r)).state
+        → record { clock = clock_in s; store = Some (cond short (unchanged (store_in t) NoSpace) r).state } ≡ (cond short (unchanged d NoSpace) (of_store d r)).state
     by_room h true r = same_device h
     by_room h false r = refl
 
@@ -66,7 +66,7 @@ module _ (s : List ℕ) (i : is_image s ≡ true) where
         by_test (has_lists s)
         (λ h.
         let r = call (store_in t) in
-        device_left left l h ∙ ap (λ (x : Store). record { clock = clock_in s; store = some x }) f ∙ by_room h (too_short room (stored_by r)) r
+        device_left left l h ∙ ap (λ (x : Store). record { clock = clock_in s; store = Some x }) f ∙ by_room h (too_short room (stored_by r)) r
         ∙ sym (ap (λ (q : Result Device A). (record_roomy room d q).state) (command_there s call i h)))
         (λ h.
         ap device_in (left_none s left i h)
@@ -77,17 +77,17 @@ module _ (s : List ℕ) (i : is_image s ≡ true) where
     lifecycle_means f =
         by_test (has_lists s)
         (λ h.
-        device_left left l h ∙ ap (λ (x : Store). record { clock = clock_in s; store = some x }) f
+        device_left left l h ∙ ap (λ (x : Store). record { clock = clock_in s; store = Some x }) f
         ∙ sym (ap (λ (q : Result Device (Unit {0})). q.state) (lifecycle_there s call i h)))
         (λ h. ap device_in (left_none s left i h) ∙ sym (ap (λ (q : Result Device (Unit {0})). q.state) (lifecycle_none s call i h)))
 
   -- a load of no record leaves the device
-  none_means : d ≡ (lists_loaded s none).state
+  none_means : d ≡ (lists_loaded s None).state
   unfolding lists_loaded H.load_lists M.load verdict after
   none_means =
       by_test (has_lists s)
-      (λ h. sym (same_device h) ∙ sym (ap (λ (q : Result Device (Unit {0})). q.state) (lifecycle_there s (λ (x : Store). M.load x none) i h)))
-      (λ h. sym (ap (λ (q : Result Device (Unit {0})). q.state) (lifecycle_none s (λ (x : Store). M.load x none) i h)))
+      (λ h. sym (same_device h) ∙ sym (ap (λ (q : Result Device (Unit {0})). q.state) (lifecycle_there s (λ (x : Store). M.load x None) i h)))
+      (λ h. sym (ap (λ (q : Result Device (Unit {0})). q.state) (lifecycle_none s (λ (x : Store). M.load x None) i h)))
 
   pub zones_mean : (b : List ℕ) (room : ℕ) → AreBytes b → device_in (zones_image s b room) ≡ (zones_set s b room).state
   unfolding zones_set H.set_time_zone zones_by
@@ -101,8 +101,8 @@ module _ (s : List ℕ) (i : is_image s ≡ true) where
 
   pub load_means : (stored : Option (List ℕ)) → StoredBytes stored → device_in (load_lists s stored).image ≡ (lists_loaded s stored).state
   unfolding lists_loaded H.load_lists M.store_after
-  load_means none c = none_means
-  load_means (some b) c = lifecycle_means (λ (x : Store). M.load x (some b)) (load_left t b) (lengths_stay t b 0).load (load_follows t b long c)
+  load_means None c = none_means
+  load_means (Some b) c = lifecycle_means (λ (x : Store). M.load x (Some b)) (load_left t b) (lengths_stay t b 0).load (load_follows t b long c)
 
   pub reset_means : device_in (reset_lists s).image ≡ (lists_reset s).state
   unfolding lists_reset H.reset_lists M.store_after

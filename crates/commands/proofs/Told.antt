@@ -1,7 +1,8 @@
 -- What a call on the lists returns and leaves.
+use Rattle.std.specs.Prelude.{Option, None, Some, Ok, Err}
+use Rattle.std.specs.Prelude.{Result as StdResult}
 use mathlib.Core.Bool.{Bool, true, false, ◌&&◌, cond}
 use mathlib.Core.List.{List, []}
-use mathlib.Core.Option.{Option, none, some}
 use mathlib.Core.Path.{◌≡◌, refl, sym, ap, subst, ◌∙◌}
 use Prim.Native.Nat.{ℕ}
 use native.Mathlib.Omega.{arith}
@@ -29,7 +30,7 @@ use Rattle.image.specs.Asked.{asked_of, record_roomy}
 use Rattle.word.proofs.Frame.{placed_part}
 use Rattle.image.proofs.Outside.{image_is}
 use Rattle.commands.specs.Calls.{Storing, returned_by, storing, table_left, lists_loaded, load_image, load_lists, lists_reset, reset_lists}
-use Rattle.commands.specs.Taken.{stored_by, roomy_in, storing_by, load_by, load_taken}
+use Rattle.commands.specs.Taken.{check_lists, stored_by, roomy_in, storing_by, load_by, load_taken}
 use Rattle.commands.proofs.Says.{refusal_alone}
 
 -- what is returned, and what is left of the bytes, of the slice for the record and of the number for its length
@@ -51,6 +52,15 @@ module _ {A : Type 0} (left out : List ℕ) (used : ℕ) {q : Result Store A} (r
 
 -- ## On an image
 
+-- where a command is taken up there is a list store
+pub taken_up : (s : List ℕ) → check_lists s ≡ Ok tt → (is_image s ≡ true) × (has_lists s ≡ true)
+taken_up s e = go (is_image s) (has_lists s) e
+  where
+    go : (i h : Bool) → ◌≡◌ {A = StdResult (Unit {0}) Refusal} (cond i (cond h (Ok tt) (Err CommandNotFound)) (Err BadLimits)) (Ok tt) → (i ≡ true) × (h ≡ true)
+    go true true e = (refl, refl)
+    go true false e = let z : ⊥ = cc in absurd z
+    go false h e = let z : ⊥ = cc in absurd z
+
 -- a table that is written
 pub table_put : (s u : List ℕ) → is_image s ≡ true → length u ≡ table_size → put_mid table_place table_size s u ≡ with_table s u
 unfolding with_table
@@ -68,11 +78,11 @@ module _ (s left : List ℕ) where
 
 -- the list store of an image, and none
 module _ (s : List ℕ) where
-  pub store_there : has_lists s ≡ true → (device_in s).store ≡ some (store_in (table_in s))
-  store_there e = ap (λ (b : Bool). cond b (some (store_in (table_in s))) none) e
+  pub store_there : has_lists s ≡ true → (device_in s).store ≡ Some (store_in (table_in s))
+  store_there e = ap (λ (b : Bool). cond b (Some (store_in (table_in s))) None) e
 
-  pub store_none : has_lists s ≡ false → (device_in s).store ≡ none
-  store_none e = ap (λ (b : Bool). cond b (some (store_in (table_in s))) none) e
+  pub store_none : has_lists s ≡ false → (device_in s).store ≡ None
+  store_none e = ap (λ (b : Bool). cond b (Some (store_in (table_in s))) None) e
 
 module _ {A : Type 0} (s : List ℕ) where
   pub asked_image : (r : Result Device A) → is_image s ≡ true → asked_of s r ≡ r
@@ -113,20 +123,29 @@ module _ {A : Type 0} (s left out : List ℕ) (used : ℕ) (call : Store → Res
   abbrev told : Storing
   told = storing (table_left s left) (record_roomy (length out) (device_in s) commanded) out used
 
-  refused_told : (cause : Refusal) → commanded ≡ unchanged (device_in s) cause → table_left s left ≡ s → Stored (refusal_number cause) s out used told
+  refused_told : (cause : Refusal) → commanded ≡ unchanged (device_in s) cause → table_left s left ≡ s → (n : ℕ) → n ≡ returned (refusal_number cause) []
+      → Stored n s out used told
   unfolding stores
-  refused_told cause e f =
-      subst (λ (r : Result Device A). Stored (refusal_number cause) s out used (storing (table_left s left) r out used))
+  refused_told cause e f n g =
+      subst (λ (r : Result Device A). Stored n s out used (storing (table_left s left) r out used))
       (sym (ap (record_roomy (length out) (device_in s)) e ∙ refused_roomy (length out) (device_in s) cause))
-      (refusal_alone (refusal_number cause), sym f, refl, refl)
+      (g, sym f, refl, refl)
 
-  pub no_image : is_image s ≡ false → Stored 8 s out used told
-  no_image i = refused_told BadLimits (asked_none s (H.command (device_in s) (device_in s).store call) i) (left_no_image s left i)
+  -- a command that is not taken up
+  pub not_taken_up : (cause : Refusal) → check_lists s ≡ Err cause → (n : ℕ) → n ≡ returned (refusal_number cause) [] → Stored n s out used told
+  not_taken_up cause e n f = go (is_image s) (has_lists s) refl refl e
+    where
+      same : (x : Refusal) → x ≡ cause → n ≡ returned (refusal_number x) []
+      same x k = subst (λ (y : Refusal). n ≡ returned (refusal_number y) []) (sym k) f
+
+      go : (i h : Bool) → is_image s ≡ i → has_lists s ≡ h → ◌≡◌ {A = StdResult (Unit {0}) Refusal} (cond i (cond h (Ok tt) (Err CommandNotFound)) (Err BadLimits)) (Err cause)
+          → Stored n s out used told
+      go false h p q k =
+          refused_told BadLimits (asked_none s (H.command (device_in s) (device_in s).store call) p) (left_no_image s left p) n (same BadLimits cc)
+      go true false p q k = refused_told CommandNotFound (command_none s call p q) (left_none s left p q) n (same CommandNotFound cc)
+      go true true p q k = let z : ⊥ = cc in absurd z
 
   module _ (i : is_image s ≡ true) where
-    pub no_store : has_lists s ≡ false → Stored 5 s out used told
-    no_store h = refused_told CommandNotFound (command_none s call i h) (left_none s left i h)
-
     by_room : (short : Bool) (r : Result Store A) (n : ℕ) (u o : List ℕ) (m : ℕ) → Stored n u o m (storing_by left (cond short (unchanged (store_in (table_in s)) NoSpace) r) out used)
         → Stored n (with_table s u) o m (storing (with_table s left) (cond short (unchanged (device_in s) NoSpace) (of_store (device_in s) r)) out used)
     unfolding stores
@@ -149,18 +168,18 @@ module _ (s : List ℕ) where
   Loads n t stored = (n ≡ (load_lists s stored).returned) × (t ≡ (load_lists s stored).image)
 
   load_stays : ((left : List ℕ) → table_left s left ≡ s) → (stored : Option (List ℕ)) → s ≡ load_image s stored
-  load_stays f none = refl
-  load_stays f (some b) = sym (f (load_left (table_in s) b))
+  load_stays f None = refl
+  load_stays f (Some b) = sym (f (load_left (table_in s) b))
 
-  pub load_no_image : is_image s ≡ false → (stored : Option (List ℕ)) → Loads 8 s stored
+  pub load_no_image : is_image s ≡ false → (stored : Option (List ℕ)) → (n : ℕ) → n ≡ returned (refusal_number BadLimits) [] → Loads n s stored
   unfolding lists_loaded
-  load_no_image i stored =
-      (refusal_alone 8 ∙ sym (ap returned_by (asked_none s (H.load_lists (device_in s) stored) i)), load_stays (λ left. left_no_image s left i) stored)
+  load_no_image i stored n f =
+      (f ∙ sym (ap returned_by (asked_none s (H.load_lists (device_in s) stored) i)), load_stays (λ left. left_no_image s left i) stored)
 
-  pub reset_no_image : is_image s ≡ false → (8 ≡ (reset_lists s).returned) × (s ≡ (reset_lists s).image)
+  pub reset_no_image : is_image s ≡ false → (n : ℕ) → n ≡ returned (refusal_number BadLimits) [] → (n ≡ (reset_lists s).returned) × (s ≡ (reset_lists s).image)
   unfolding lists_reset
-  reset_no_image i =
-      (refusal_alone 8 ∙ sym (ap returned_by (asked_none s (H.reset_lists (device_in s)) i)), sym (left_no_image s (reset_left (table_in s)) i))
+  reset_no_image i n f =
+      (f ∙ sym (ap returned_by (asked_none s (H.reset_lists (device_in s)) i)), sym (left_no_image s (reset_left (table_in s)) i))
 
   module _ (i : is_image s ≡ true) where
     pub load_no_store : has_lists s ≡ false → (stored : Option (List ℕ)) → Loads 0 s stored
@@ -174,14 +193,14 @@ module _ (s : List ℕ) where
         (refusal_alone 0 ∙ sym (ap returned_by (lifecycle_none s (λ (x : Store). M.factory_reset x) i h)), sym (left_none s (reset_left (table_in s)) i h))
 
     module _ (h : has_lists s ≡ true) where
-      pub load_no_record : Loads 0 s none
+      pub load_no_record : Loads 0 s None
       unfolding lists_loaded H.load_lists M.load verdict
-      load_no_record = (refusal_alone 0 ∙ sym (ap returned_by (lifecycle_there s (λ (x : Store). M.load x none) i h)), refl)
+      load_no_record = (refusal_alone 0 ∙ sym (ap returned_by (lifecycle_there s (λ (x : Store). M.load x None) i h)), refl)
 
-      pub load_there : (b : List ℕ) (n : ℕ) (u : List ℕ) → n ≡ (load_taken (table_in s) b).returned → u ≡ (load_taken (table_in s) b).image → Loads n (with_table s u) (some b)
+      pub load_there : (b : List ℕ) (n : ℕ) (u : List ℕ) → n ≡ (load_taken (table_in s) b).returned → u ≡ (load_taken (table_in s) b).image → Loads n (with_table s u) (Some b)
       unfolding lists_loaded H.load_lists load_by
       load_there b n u p q =
-          (p ∙ sym (ap returned_by (lifecycle_there s (λ (x : Store). M.load x (some b)) i h)), ap (with_table s) q ∙ sym (left_there s (load_left (table_in s) b) i h))
+          (p ∙ sym (ap returned_by (lifecycle_there s (λ (x : Store). M.load x (Some b)) i h)), ap (with_table s) q ∙ sym (left_there s (load_left (table_in s) b) i h))
 
       pub reset_there : (u : List ℕ) → u ≡ reset_left (table_in s) → (0x304100 ≡ (reset_lists s).returned) × (with_table s u ≡ (reset_lists s).image)
       unfolding lists_reset H.reset_lists M.factory_reset returned number

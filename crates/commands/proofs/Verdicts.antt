@@ -1,7 +1,8 @@
 -- What a table says of a request is what the model's list store answers.
+use Rattle.std.specs.Prelude.{Option, None, Some, Ok, Err}
+use Rattle.std.specs.Prelude.{Result as StdResult}
 use mathlib.Core.Bool.{Bool, true, false, cond}
 use mathlib.Core.List.{List, [], ◌∷◌}
-use mathlib.Core.Option.{Option, none, some}
 use mathlib.Core.Path.{◌≡◌, refl, sym, ap, ◌∙◌}
 use Prim.Native.Nat.{ℕ, ◌≤◌}
 use native.Mathlib.Omega.{arith}
@@ -22,8 +23,6 @@ use Rattle.model.specs.Store as M
 use Rattle.model.specs.Store.{Store, changed_by, next_generation}
 use Rattle.model.specs.RoundTrip.{AreBytes}
 use Rattle.model.proofs.Facts.{by_test}
-use Rattle.rules.specs.declared.Verdict.{Verdict}
-use Rattle.rules.specs.declared.Verdict.TheVariants as Said
 use Rattle.rules.specs.Verdicts.{verdict_of, zones_tested, windows_tested, record_tested}
 use Rattle.rules.proofs.Agree.{zones_are_lem, windows_are_lem, is_accepted, is_turned_down}
 use Rattle.table.specs.Layout.{table_size, rules_in, lists_in, generation_in, store_in}
@@ -37,7 +36,7 @@ use Rattle.commands.specs.Taken.{stored_by, zones_by, windows_by, load_by}
 
 module _ (s : Store) (b : List ℕ) (room : ℕ) where
   zones_short_by : (v : R.Verdict)
-      → too_short room (stored_by (M.time_zone_set s b v)) ≡ lacks_room room (if_accepted v (some (record_bytes (after s.rules s.lists (SetTimeZone b)))) none)
+      → too_short room (stored_by (M.time_zone_set s b v)) ≡ lacks_room room (if_accepted v (Some (record_bytes (after s.rules s.lists (SetTimeZone b)))) None)
   unfolding stores M.record_of
   zones_short_by R.accepted = refl
   zones_short_by (R.turned_down cause) = le-ltb room 0 (omega arith)
@@ -47,17 +46,17 @@ module _ (s : Store) (b : List ℕ) (room : ℕ) where
   zones_short_lem = zones_short_by (verdict s.rules (SetTimeZone b))
 
   windows_short_by : (v : R.Verdict)
-      → too_short room (stored_by (M.windows_tested s b v)) ≡ lacks_room room (if_accepted v (some (record_bytes (after s.rules s.lists (SetDSTOffset b)))) none)
+      → too_short room (stored_by (M.windows_tested s b v)) ≡ lacks_room room (if_accepted v (Some (record_bytes (after s.rules s.lists (SetDSTOffset b)))) None)
   unfolding stores M.record_of
   windows_short_by R.accepted = refl
   windows_short_by (R.turned_down cause) = le-ltb room 0 (omega arith)
 
   windows_short_read : (o : Option (List Window))
       → too_short room (stored_by (M.windows_read s b o))
-      ≡ lacks_room room (if_accepted (windows_verdict s.rules o) (some (record_bytes (after s.rules s.lists (SetDSTOffset b)))) none)
+      ≡ lacks_room room (if_accepted (windows_verdict s.rules o) (Some (record_bytes (after s.rules s.lists (SetDSTOffset b)))) None)
   unfolding stores
-  windows_short_read none = le-ltb room 0 (omega arith)
-  windows_short_read (some ws) = windows_short_by (test_windows s.rules ws)
+  windows_short_read None = le-ltb room 0 (omega arith)
+  windows_short_read (Some ws) = windows_short_by (test_windows s.rules ws)
 
   pub windows_short_lem : too_short room (stored_by (M.set_dst_offset s b)) ≡ no_space s.rules s.lists (record { call = SetDSTOffset b; room = room })
   unfolding M.set_dst_offset no_space O.stored_by verdict
@@ -72,35 +71,35 @@ state_by false s r = refl
 
 -- the record that a call stores has room
 has_room : (s : Store) (c : Call) (room : ℕ) → no_space s.rules s.lists (record { call = c; room = room }) ≡ false → verdict s.rules c ≡ R.accepted
-    → O.stored_by s.rules s.lists c ≡ if_accepted (verdict s.rules c) (some (record_bytes (after s.rules s.lists c))) none
+    → O.stored_by s.rules s.lists c ≡ if_accepted (verdict s.rules c) (Some (record_bytes (after s.rules s.lists c))) None
     → (l : Lists) → l ≡ after s.rules s.lists c → length (record_bytes l) ≤ room
 unfolding no_space
 has_room s c room k v g l e =
     let f : too_short room (record_bytes (after s.rules s.lists c)) ≡ false
-    = sym (ap (lacks_room room) (g ∙ ap (λ (w : R.Verdict). if_accepted w (some (record_bytes (after s.rules s.lists c))) none) v)) ∙ k in
+    = sym (ap (lacks_room room) (g ∙ ap (λ (w : R.Verdict). if_accepted w (Some (record_bytes (after s.rules s.lists c))) None) v)) ∙ k in
     let m = ap (λ (x : Lists). length (record_bytes x)) e in
     omega (arith, ltb-false room (length (record_bytes (after s.rules s.lists c))) f)
 
 -- the room was tested
-room_tested : (short : Bool) (v : Verdict) → with_room short v ≡ Said.Accepted → (short ≡ false) × (v ≡ Said.Accepted)
-room_tested true Said.Accepted e = let z : ◌≡◌ {A = ℕ} 0 1 = cc in absurd (omega arith)
-room_tested false Said.Accepted e = (refl, refl)
-room_tested short (Said.TurnedDown cause) e = let z : ◌≡◌ {A = ℕ} 0 1 = cc in absurd (omega arith)
+room_tested : (short : Bool) (v : StdResult (Unit {0}) Refusal) → with_room short v ≡ (Ok tt) → (short ≡ false) × (v ≡ (Ok tt))
+room_tested true (Ok tt) e = let z : ◌≡◌ {A = ℕ} 0 1 = cc in absurd (omega arith)
+room_tested false (Ok tt) e = (refl, refl)
+room_tested short (Err cause) e = let z : ◌≡◌ {A = ℕ} 0 1 = cc in absurd (omega arith)
 
 -- ## SetTimeZone
 
 module _ (t b : List ℕ) (room : ℕ) where
   -- what the model's call leaves, answers and asks for, by what is said
-  abbrev pub zones_told : Verdict → Result Store Bool
-  zones_told Said.Accepted =
+  abbrev pub zones_told : StdResult (Unit {0}) Refusal → Result Store Bool
+  zones_told (Ok tt) =
       record {
         state = changed_by (store_in t) (SetTimeZone b);
         answer = answers true;
         effects = wake_timer ∷ store_record ∷ report TimeZone ∷ report DSTOffset ∷ [];
       }
-  zones_told (Said.TurnedDown cause) = unchanged (store_in t) cause
+  zones_told (Err cause) = unchanged (store_in t) cause
 
-  zones_cases : (short : Bool) → cond short (unchanged (store_in t) F.NoSpace) (zones_told Said.Accepted) ≡ zones_told (with_room short Said.Accepted)
+  zones_cases : (short : Bool) → cond short (unchanged (store_in t) F.NoSpace) (zones_told (Ok tt)) ≡ zones_told (with_room short (Ok tt))
   zones_cases true = refl
   zones_cases false = refl
 
@@ -120,7 +119,7 @@ module _ (t b : List ℕ) (room : ℕ) where
       go : (v : R.Verdict) → verdict (rules_in t) (SetTimeZone b) ≡ v → zones_by t b room ≡ zones_told (time_zone_said t b room)
       go R.accepted e = zones_by_lem R.accepted e ∙ zones_cases (zones_short t b room) ∙ sym (ap zones_told (said_by R.accepted (zones_short t b room) e refl))
       go (R.turned_down cause) e =
-          let k : zones_short t b room ≡ false = ap (λ (w : R.Verdict). lacks_room room (if_accepted w (some (record_bytes (after (rules_in t) (lists_in t) (SetTimeZone b)))) none)) e in
+          let k : zones_short t b room ≡ false = ap (λ (w : R.Verdict). lacks_room room (if_accepted w (Some (record_bytes (after (rules_in t) (lists_in t) (SetTimeZone b)))) None)) e in
           zones_by_lem (R.turned_down cause) e ∙ ap (λ (x : Bool). cond x (unchanged (store_in t) F.NoSpace) (unchanged (store_in t) cause)) k ∙ sym (ap zones_told (said_by (R.turned_down cause) false e k))
 
   module _ (h : table_size ≤ length t) (c : AreBytes b) where
@@ -130,7 +129,7 @@ module _ (t b : List ℕ) (room : ℕ) where
         time_zone_follows t b room h c ∙ ap (λ (x : Bool). cond x (store_in t) (M.set_time_zone (store_in t) b).state) (sym (zones_short_lem (store_in t) b room))
         ∙ state_by (too_short room (stored_by (M.set_time_zone (store_in t) b))) (store_in t) (M.set_time_zone (store_in t) b)
 
-    module _ (a : time_zone_said t b room ≡ Said.Accepted) where
+    module _ (a : time_zone_said t b room ≡ (Ok tt)) where
       -- the lists that are left are the model's, and their record has room
       pub zones_lists : lists_in (time_zone_left t b room) ≡ after (rules_in t) (lists_in t) (SetTimeZone b)
       zones_lists = ap (λ (s : Store). s.lists) zones_follow ∙ ap (λ (r : Result Store Bool). r.state.lists) (zones_told_lem ∙ ap zones_told a)
@@ -149,21 +148,21 @@ counted_differs : (g : ℕ) → next_generation g ≡ g → ⊥
 counted_differs g e = omega arith
 
 module _ (t b : List ℕ) (room : ℕ) where
-  abbrev pub windows_told : Verdict → Result Store (Unit {0})
-  windows_told Said.Accepted =
+  abbrev pub windows_told : StdResult (Unit {0}) Refusal → Result Store (Unit {0})
+  windows_told (Ok tt) =
       record {
         state = changed_by (store_in t) (SetDSTOffset b);
         answer = done;
         effects = wake_timer ∷ store_record ∷ report DSTOffset ∷ [];
       }
-  windows_told (Said.TurnedDown cause) =
+  windows_told (Err cause) =
       record {
         state = cond (empties cause) (changed_by (store_in t) (SetDSTOffset b)) (store_in t);
         answer = refused cause;
         effects = when (empties cause) wake_timer;
       }
 
-  windows_cases : (short : Bool) → cond short (unchanged (store_in t) F.NoSpace) (windows_told Said.Accepted) ≡ windows_told (with_room short Said.Accepted)
+  windows_cases : (short : Bool) → cond short (unchanged (store_in t) F.NoSpace) (windows_told (Ok tt)) ≡ windows_told (with_room short (Ok tt))
   windows_cases true = refl
   windows_cases false = refl
 
@@ -179,11 +178,11 @@ module _ (t b : List ℕ) (room : ℕ) where
   -- one that is turned down stores nothing
   none_stored : (cause : Refusal) → verdict (rules_in t) (SetDSTOffset b) ≡ R.turned_down cause → windows_short t b room ≡ false
   unfolding no_space O.stored_by
-  none_stored cause e = ap (λ (w : R.Verdict). lacks_room room (if_accepted w (some (record_bytes (after (rules_in t) (lists_in t) (SetDSTOffset b)))) none)) e
+  none_stored cause e = ap (λ (w : R.Verdict). lacks_room room (if_accepted w (Some (record_bytes (after (rules_in t) (lists_in t) (SetDSTOffset b)))) None)) e
 
   module _ (h : table_size ≤ length t) (c : AreBytes b) where
     -- readable windows that are turned down leave none: the model counts a change
-    leaves_none : (ws : List Window) (cause : Refusal) → read_windows b ≡ some ws → test_windows (rules_in t) ws ≡ R.turned_down cause → empties cause ≡ true
+    leaves_none : (ws : List Window) (cause : Refusal) → read_windows b ≡ Some ws → test_windows (rules_in t) ws ≡ R.turned_down cause → empties cause ≡ true
     unfolding verdict dst_offset_left store_after_sized M.store_after M.set_dst_offset
     leaves_none ws cause e a =
         let v : verdict (rules_in t) (SetDSTOffset b) ≡ R.turned_down cause = ap (windows_verdict (rules_in t)) e ∙ a in
@@ -202,27 +201,27 @@ module _ (t b : List ℕ) (room : ℕ) where
     unfolding verdict
     windows_told_lem = go (read_windows b) refl
       where
-        tested : (ws : List Window) → read_windows b ≡ some ws → (v : R.Verdict) → test_windows (rules_in t) ws ≡ v → windows_by t b room ≡ windows_told (dst_offset_said t b room)
+        tested : (ws : List Window) → read_windows b ≡ Some ws → (v : R.Verdict) → test_windows (rules_in t) ws ≡ v → windows_by t b room ≡ windows_told (dst_offset_said t b room)
         tested ws e R.accepted a =
             let v : verdict (rules_in t) (SetDSTOffset b) ≡ R.accepted = ap (windows_verdict (rules_in t)) e ∙ a in
-            windows_by_lem (some ws) e ∙ ap (λ (w : R.Verdict). cond (windows_short t b room) (unchanged (store_in t) F.NoSpace) (M.windows_tested (store_in t) b w)) a
+            windows_by_lem (Some ws) e ∙ ap (λ (w : R.Verdict). cond (windows_short t b room) (unchanged (store_in t) F.NoSpace) (M.windows_tested (store_in t) b w)) a
             ∙ windows_cases (windows_short t b room) ∙ sym (ap windows_told (windows_said_by R.accepted (windows_short t b room) v refl))
         tested ws e (R.turned_down cause) a =
             let v : verdict (rules_in t) (SetDSTOffset b) ≡ R.turned_down cause = ap (windows_verdict (rules_in t)) e ∙ a in
             let k = none_stored cause v in
-            windows_by_lem (some ws) e ∙ ap (λ (w : R.Verdict). cond (windows_short t b room) (unchanged (store_in t) F.NoSpace) (M.windows_tested (store_in t) b w)) a
+            windows_by_lem (Some ws) e ∙ ap (λ (w : R.Verdict). cond (windows_short t b room) (unchanged (store_in t) F.NoSpace) (M.windows_tested (store_in t) b w)) a
             ∙ ap (λ (x : Bool). cond x (unchanged (store_in t) F.NoSpace) (M.windows_tested (store_in t) b (R.turned_down cause))) k
             ∙ sym
             (ap windows_told (windows_said_by (R.turned_down cause) false v k)
             ∙ ap (λ (x : Bool). record { state = cond x (changed_by (store_in t) (SetDSTOffset b)) (store_in t); answer = refused cause; effects = when x wake_timer }) (leaves_none ws cause e a))
 
         go : (o : Option (List Window)) → read_windows b ≡ o → windows_by t b room ≡ windows_told (dst_offset_said t b room)
-        go none e =
+        go None e =
             let v : verdict (rules_in t) (SetDSTOffset b) ≡ R.turned_down F.Unreadable = ap (windows_verdict (rules_in t)) e in
             let k = none_stored F.Unreadable v in
-            windows_by_lem none e ∙ ap (λ (x : Bool). cond x (unchanged (store_in t) F.NoSpace) (unchanged (store_in t) F.Unreadable)) k
+            windows_by_lem None e ∙ ap (λ (x : Bool). cond x (unchanged (store_in t) F.NoSpace) (unchanged (store_in t) F.Unreadable)) k
             ∙ sym (ap windows_told (windows_said_by (R.turned_down F.Unreadable) false v k))
-        go (some ws) e = tested ws e (test_windows (rules_in t) ws) refl
+        go (Some ws) e = tested ws e (test_windows (rules_in t) ws) refl
 
     pub windows_follow : store_in (dst_offset_left t b room) ≡ (windows_by t b room).state
     unfolding windows_by store_after_sized M.store_after
@@ -230,7 +229,7 @@ module _ (t b : List ℕ) (room : ℕ) where
         dst_offset_follows t b room h c ∙ ap (λ (x : Bool). cond x (store_in t) (M.set_dst_offset (store_in t) b).state) (sym (windows_short_lem (store_in t) b room))
         ∙ state_by (too_short room (stored_by (M.set_dst_offset (store_in t) b))) (store_in t) (M.set_dst_offset (store_in t) b)
 
-    module _ (a : dst_offset_said t b room ≡ Said.Accepted) where
+    module _ (a : dst_offset_said t b room ≡ (Ok tt)) where
       pub windows_lists : lists_in (dst_offset_left t b room) ≡ after (rules_in t) (lists_in t) (SetDSTOffset b)
       windows_lists = ap (λ (s : Store). s.lists) windows_follow ∙ ap (λ (r : Result Store (Unit {0})). r.state.lists) (windows_told_lem ∙ ap windows_told a)
 
@@ -243,9 +242,9 @@ module _ (t b : List ℕ) (room : ℕ) where
 
 -- ## Load
 
-pub load_told : (t b : List ℕ) (v : R.Verdict) → load_said t b ≡ verdict_of v → load_by t b ≡ M.store_loaded (store_in t) (some b) v
+pub load_told : (t b : List ℕ) (v : R.Verdict) → load_said t b ≡ verdict_of v → load_by t b ≡ M.store_loaded (store_in t) (Some b) v
 unfolding load_said record_tested load_by M.load
-load_told t b v e = ap (M.store_loaded (store_in t) (some b)) (same_said (verdict (rules_in t) (Load (some b))) v e)
+load_told t b v e = ap (M.store_loaded (store_in t) (Some b)) (same_said (verdict (rules_in t) (Load (Some b))) v e)
   where
     same_said : (u v : R.Verdict) → verdict_of u ≡ verdict_of v → u ≡ v
     same_said u R.accepted e = is_accepted u e

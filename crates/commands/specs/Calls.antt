@@ -1,6 +1,5 @@
 -- What the calls that change an image return, leave and copy: one term for each call, whose fields its contract cites.
-use Rattle.std.specs.Prelude.{Bool, not, ◌||◌, ◌&&◌, cond, List, ℕ, leb, eqb, length}
-use Rattle.std.proofs.Math.Option.{Option, none, some}
+use Rattle.std.specs.Prelude.{Bool, not, ◌||◌, ◌&&◌, cond, List, ℕ, leb, eqb, length, Option, None, Some}
 use Rattle.model.specs.declared.TimeGranularity.{TimeGranularity}
 use Rattle.model.specs.declared.TimeSource.{TimeSource}
 use Rattle.model.specs.declared.Refusal.TheVariants.{Unreadable, InvalidCommand, BadLimits}
@@ -102,9 +101,9 @@ named_by mark node endpoint = given mark (record { node = node; endpoint = endpo
 
 module _ {A : Type 0} (set : C.Clock → ℕ → TimeGranularity → TimeSource → ℕ → Result C.Clock A) where
   abbrev pub set_by : Device → ℕ → Option TimeGranularity → Option TimeSource → ℕ → Result Device A
-  set_by d utc none source tick = unchanged d Unreadable
-  set_by d utc (some g) none tick = unchanged d Unreadable
-  set_by d utc (some g) (some t) tick = of_clock d (set d.clock utc g t tick)
+  set_by d utc None source tick = unchanged d Unreadable
+  set_by d utc (Some g) None tick = unchanged d Unreadable
+  set_by d utc (Some g) (Some t) tick = of_clock d (set d.clock utc g t tick)
 
 unfoldable pub clock_set : List ℕ → ℕ → ℕ → ℕ → ℕ → Result Device Bool
 clock_set s utc granularity source tick =
@@ -164,8 +163,8 @@ lists_loaded s stored = asked_of s (H.load_lists (device_in s) stored)
 
 -- with no record the image stays as it is
 abbrev pub load_image : List ℕ → Option (List ℕ) → List ℕ
-load_image s none = s
-load_image s (some bytes) = table_left s (T.load_left (table_in s) bytes)
+load_image s None = s
+load_image s (Some bytes) = table_left s (T.load_left (table_in s) bytes)
 
 abbrev pub load_lists : List ℕ → Option (List ℕ) → Called
 load_lists s stored = record { returned = returned_by (lists_loaded s stored); image = load_image s stored }

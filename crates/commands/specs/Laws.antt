@@ -1,6 +1,5 @@
 -- The image that a call leaves stands for the device that the model's call leaves; the proofs stand in proofs/.
-use Rattle.std.specs.Prelude.{true, List, ◌≡◌, ℕ}
-use Rattle.std.proofs.Math.Option.{Option, none, some}
+use Rattle.std.specs.Prelude.{true, List, ◌≡◌, ℕ, Option, None, Some}
 use Rattle.model.specs.RoundTrip.{AreBytes}
 use Rattle.image.specs.Layout.{is_image}
 use Rattle.image.specs.Parts.{device_in}
@@ -8,8 +7,8 @@ use Rattle.commands.specs.Calls.{zones_set, zones_image, windows_set, windows_im
 
 -- the bytes of a record that may be missing
 abbrev pub StoredBytes : Option (List ℕ) → Type 0
-StoredBytes none = Unit {0}
-StoredBytes (some b) = AreBytes b
+StoredBytes None = Unit {0}
+StoredBytes (Some b) = AreBytes b
 
 -- `zones_mean`, `windows_mean`, `load_means`, `reset_means` in proofs/Means.antt
 pub record ListCallsMean (s : List ℕ) : Type 0 where

@@ -1,36 +1,29 @@
 -- The parts of the calls that the functions inside answer.
-use Rattle.std.specs.Prelude.{Bool, cond, List, [], ◌∷◌, ◌++◌, ℕ, length}
-use Rattle.std.proofs.Math.Option.{Option, some}
-use Rattle.model.specs.declared.TimeGranularity.{TimeGranularity}
-use Rattle.model.specs.declared.TimeSource.{TimeSource}
-use Rattle.model.specs.declared.Refusal.TheVariants.{NoSpace}
-use Rattle.model.specs.Answers.{number_of, done, TrustedSource, wake_client, Result, unchanged}
+use Rattle.std.specs.Prelude.{Bool, cond, List, [], ℕ, length, Option, None, Some, Ok, Err}
+use Rattle.std.specs.Prelude.{Result as StdResult}
+use Rattle.model.specs.declared.Refusal.{Refusal}
+use Rattle.model.specs.declared.Refusal.TheVariants.{CommandNotFound, BadLimits, NoSpace}
+use Rattle.model.specs.Answers.{number_of, Result, unchanged}
 use Rattle.model.specs.Codes.{returned}
+use Rattle.model.specs.Rules.{allowed}
 use Rattle.model.specs.Output.{too_short, copied_over, stores}
-use Rattle.model.specs.Clock as C
 use Rattle.model.specs.Store as M
 use Rattle.model.specs.Store.{Store}
-use Rattle.model.specs.Handler.{Device, of_clock}
 use Rattle.table.specs.Layout.{store_in}
 use Rattle.table.specs.Left as T
-use Rattle.image.specs.Parts.{device_in}
-use Rattle.commands.specs.Calls.{Called, Setting, Storing, setting_of}
+use Rattle.image.specs.declared.parts.Limits.{Limits}
+use Rattle.image.specs.Layout.{is_image}
+use Rattle.image.specs.Parts.{has_lists}
+use Rattle.commands.specs.Calls.{Called, Storing}
 
--- SetTrustedTimeSource of a fabric, with the source that it names
-abbrev pub source_taken : Device → Option TrustedSource → Result Device (Unit {0})
-source_taken d source =
-    record {
-      state = record { clock = (C.set_trusted_time_source_persist d.clock source).state; store = d.store };
-      answer = done;
-      effects = (C.set_trusted_time_source_persist d.clock source).effects ++ (wake_client ∷ []);
-    }
+-- the limits of the list store that is asked for, where it can have them; they count only where there is to be one
+abbrev pub limits_asked : Bool → ℕ → ℕ → StdResult (Option Limits) Refusal
+limits_asked there zones windows =
+    cond there (cond (allowed (record { zone_limit = zones; window_limit = windows })) (Ok (Some (record { zones = zones; windows = windows }))) (Err BadLimits)) (Ok None)
 
--- the clock's own settings, with a granularity and a source
-abbrev pub set_taken : List ℕ → ℕ → TimeGranularity → TimeSource → ℕ → ℕ → Setting
-set_taken s utc g t tick was = setting_of s (of_clock (device_in s) (C.set_utc_time (device_in s).clock utc g t tick)) (λ changed. changed) was
-
-abbrev pub persist_taken : List ℕ → ℕ → TimeGranularity → TimeSource → ℕ → ℕ → Setting
-persist_taken s utc g t tick was = setting_of s (of_clock (device_in s) (C.set_utc_time_persist (device_in s).clock utc g t tick)) (λ p. p.changed) was
+-- whether a command on the lists is taken up, before its request is read
+abbrev pub check_lists : List ℕ → StdResult (Unit {0}) Refusal
+check_lists s = cond (is_image s) (cond (has_lists s) (Ok tt) (Err CommandNotFound)) (Err BadLimits)
 
 -- ## A call on a list store, which is a table
 
@@ -67,7 +60,7 @@ windows_taken t request out used = storing_by (T.dst_offset_left t request (leng
 
 -- a load of a record
 unfoldable pub load_by : List ℕ → List ℕ → Result Store (Unit {0})
-load_by t bytes = M.load (store_in t) (some bytes)
+load_by t bytes = M.load (store_in t) (Some bytes)
 
 abbrev pub load_taken : List ℕ → List ℕ → Called
 load_taken t bytes =

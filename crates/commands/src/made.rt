@@ -1,36 +1,28 @@
 // A new image.
-ghost use Rattle.std.specs.Prelude.{not, ◌||◌, cond, ◌≡◌, leb};
-ghost use Rattle.model.specs.Rules.{allowed};
-ghost use Rattle.commands.specs.Calls.{makes, new};
+ghost use Rattle.std.specs.Prelude.{◌≡◌};
+ghost use Rattle.commands.specs.Calls.{new};
+ghost use Rattle.commands.specs.Taken.{limits_asked};
 
-use image::codes::{BAD_LIMITS, TAKEN};
-use table::layout::MOST_WINDOWS;
+use crate::codes;
+use image::codes::TAKEN;
+use image::parts::Limits;
+use image::place::SIZE;
+use model::Refusal;
 
-// Whether an image can have these limits; they count only where there is to be a list store.
-fn limits_fit(there: bool, zone_limit: usize, window_limit: usize) -> bool
-    ensures { result ≡ not there || allowed (record { zone_limit = zone_limit; window_limit = window_limit }) }
+// The limits of the list store that is asked for, where it can have them; they count only where there is to be one.
+fn limits(there: bool, zone_limit: usize, window_limit: usize) -> Result<Option<Limits>, Refusal>
+    ensures { result ≡ limits_asked there zone_limit window_limit }
 {
-    if there {
-        return table::allowed(zone_limit, window_limit);
+    if !there {
+        return Ok(None);
     }
-    true
-}
-
-// Whether an image can be made.
-fn makes(image: &[u8], there: bool, zone_limit: usize, window_limit: usize) -> bool
-    ensures { result ≡ makes image.now there zone_limit window_limit }
-{
-    limits_fit(there, zone_limit, window_limit) && image::place::SIZE <= image.len()
-}
-
-// A limit as a byte; 0 stands for one that does not count.
-fn limit_byte(n: usize) -> u8
-    ensures { result ≡ cond (leb n 16) n 0 }
-{
-    if n <= MOST_WINDOWS {
-        return n as u8;
+    if !table::allowed(zone_limit, window_limit) {
+        return Err(Refusal::BadLimits);
     }
-    0
+    Ok(Some(Limits {
+        zones: zone_limit as u8,
+        windows: window_limit as u8,
+    }))
 }
 
 // Makes a new image: with a list store of these limits where the mark is not 0, else without one.
@@ -45,17 +37,13 @@ pub fn new(
     ensures { (result ≡ (new image.old list_store zone_limit window_limit build period).returned)
         × (image.new ≡ (new image.old list_store zone_limit window_limit build period).image) }
 {
-    let there = list_store != 0;
-    if !makes(image, there, zone_limit, window_limit) {
-        return BAD_LIMITS;
+    let limits = match limits(list_store != 0, zone_limit, window_limit) {
+        Ok(limits) => limits,
+        Err(cause) => return codes::refusal(cause),
+    };
+    if image.len() < SIZE {
+        return codes::refusal(Refusal::BadLimits);
     }
-    image::parts::put_new(
-        image,
-        there,
-        limit_byte(zone_limit),
-        limit_byte(window_limit),
-        build,
-        period,
-    );
+    image::parts::put_new(image, limits, build, period);
     TAKEN
 }

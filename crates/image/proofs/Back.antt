@@ -1,14 +1,13 @@
 -- What is written reads back, a part at any place.
+use Rattle.std.specs.Prelude.{Option, None, Some, is_some}
 use mathlib.Core.Bool.{Bool, true, false, not, cond}
 use mathlib.Core.List.{List}
-use mathlib.Core.Option.{Option, none, some}
 use mathlib.Core.Path.{◌≡◌, refl, ap, ◌∙◌}
 use Prim.Native.Nat.{ℕ, ◌+◌, ◌≤◌, ◌<◌}
 use native.Mathlib.Omega.{arith}
 use lib.Dec.{eqb}
 use lib.ListN.{take, drop, get_or}
 use lib.Seq.{take_all}
-use Rattle.model.specs.Basics.{is_some}
 use Rattle.model.specs.Answers.{TrustedSource}
 use Rattle.model.specs.Bytes.{bytes, number, bits_of}
 use Rattle.model.specs.Clock.{Clock}
@@ -32,14 +31,14 @@ pub bit_back : (b : Bool) → not (eqb (bit b) 0) ≡ b
 bit_back true = refl
 bit_back false = refl
 
-maybe_back : (o : Option ℕ) → cond (not (eqb (bit (is_some o)) 0)) (some (or_zero o)) none ≡ o
-maybe_back none = refl
-maybe_back (some n) = refl
+maybe_back : (o : Option ℕ) → cond (not (eqb (bit (is_some o)) 0)) (Some (or_zero o)) None ≡ o
+maybe_back None = refl
+maybe_back (Some n) = refl
 
 trusted_back : (o : Option TrustedSource)
-    → cond (not (eqb (bit (is_some o)) 0)) (some (record { fabric = fabric_of o; node = node_of o; endpoint = endpoint_of o })) none ≡ o
-trusted_back none = refl
-trusted_back (some t) = refl
+    → cond (not (eqb (bit (is_some o)) 0)) (Some (record { fabric = fabric_of o; node = node_of o; endpoint = endpoint_of o })) None ≡ o
+trusted_back None = refl
+trusted_back (Some t) = refl
 
 -- ## The clock
 
@@ -104,11 +103,11 @@ clock_back s c i f = clock_reads c (placed_holds s clock_place (clock_bytes c) (
 module _ {t : List ℕ} {at : ℕ} where
   pub timer_reads : (x : Timer) → Holds t at (timer_bytes x) → TimerFits x → timer_at t at ≡ x
   unfolding timer_bytes
-  timer_reads none h f =
-      let l = length_timer none in
+  timer_reads None h f =
+      let l = length_timer None in
       rw (holds_byte h at 0 (omega arith) (omega arith))
-  timer_reads (some seen) h f =
-      let l = length_timer (some seen) in
+  timer_reads (Some seen) h f =
+      let l = length_timer (Some seen) in
       let b = bytes 4 (bits_of seen.offset) in
       let o = holds_word h 4 (at + 4) 4 refl (omega arith) ∙ ap number (take_all 4 b (omega (arith, length_bytes 4 (bits_of seen.offset)))) ∙ number_bytes 4 (bits_of seen.offset) (bits_below seen.offset f) in
       rw (holds_byte h at 0 (omega arith) (omega arith), holds_byte h (at + 1) 1 refl (omega arith), holds_byte h (at + 2) 2 refl (omega arith), o, bit_back seen.active, bit_back seen.usable, signed_bits seen.offset f)

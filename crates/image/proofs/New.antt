@@ -1,7 +1,7 @@
 -- A new image has no lists, a fresh clock, a timer that saw nothing and a new client.
+use Rattle.std.specs.Prelude.{None}
 use mathlib.Core.Bool.{Bool, true, false}
 use mathlib.Core.List.{List, [], ◌∷◌, ◌++◌}
-use mathlib.Core.Option.{none}
 use mathlib.Core.Path.{◌≡◌, refl, sym, ap, ◌∙◌}
 use Prim.Native.Nat.{ℕ, ◌≤◌, min}
 use native.Mathlib.Omega.{arith}
@@ -61,7 +61,7 @@ record Stand (t : List ℕ) (lists : Bool) (zones windows build period : ℕ) : 
   marked : Holds t store_place (mark lists)
   clock : Holds t clock_place (clock_bytes (fresh build))
   client : Holds t client_place (client_bytes (new_client period))
-  timer : Holds t timer_place (timer_bytes none)
+  timer : Holds t timer_place (timer_bytes None)
   table : Holds t table_place (T.new_bytes (limits lists zones windows))
 
 stand : (t : List ℕ) (there : Bool) (zones windows build period : ℕ) → Holds t magic_place (new_bytes there zones windows build period)
@@ -71,7 +71,7 @@ stand t there zones windows build period h =
     let m = bytes 4 magic in
     let c = clock_bytes (fresh build) in
     let k = client_bytes (new_client period) in
-    let x = timer_bytes none in
+    let x = timer_bytes None in
     let table = T.new_bytes (limits there zones windows) in
     let timer = x ++ table in
     let client = k ++ timer in
@@ -87,7 +87,7 @@ stand t there zones windows build period h =
       clock = holds_left c client h₂;
       client = holds_left k timer h₃;
       timer = holds_left x table h₄;
-      table = holds_right x table h₄ (omega (arith, length_timer none));
+      table = holds_right x table h₄ (omega (arith, length_timer None));
     }
 
 -- ## What they stand for
@@ -119,6 +119,6 @@ new_is_fresh s there zones windows build period r a b p =
       there = rw (holds_byte o.marked store_place 0 refl (omega arith)) (bit_back there);
       store = ap store_in (table_reads t (limits there zones windows) o.table) ∙ store_new (limits there zones windows) q.0 q.1;
       clock = clock_reads (fresh build) o.clock (fresh_fits build b);
-      timer = timer_reads none o.timer tt;
+      timer = timer_reads None o.timer tt;
       client = client_reads (new_client period) o.client (client_fits period p);
     }

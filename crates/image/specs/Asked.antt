@@ -1,6 +1,5 @@
 -- What a call on an image answers, and what it leaves in what its caller lends.
-use Rattle.std.specs.Prelude.{cond, List, [], ℕ, eqb}
-use Rattle.std.proofs.Math.Option.{Option, none, some}
+use Rattle.std.specs.Prelude.{cond, List, [], ℕ, eqb, Option, None, Some}
 use Rattle.model.specs.declared.Refusal.TheVariants.{BadLimits, NoSpace}
 use Rattle.model.specs.Answers.{Answer, refused, Result, unchanged}
 use Rattle.model.specs.Output.{too_short, stores}
@@ -11,7 +10,7 @@ use Rattle.image.specs.Parts.{device_in}
 -- an argument that is there where its mark is not 0
 module _ {A : Type 0} where
   abbrev pub given : ℕ → A → Option A
-  given mark a = cond (eqb mark 0) none (some a)
+  given mark a = cond (eqb mark 0) None (Some a)
 
   -- ## Readings
 

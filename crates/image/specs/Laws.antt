@@ -1,6 +1,5 @@
 -- What holds of images; the proofs stand in proofs/.
-use Rattle.std.specs.Prelude.{Bool, true, List, ◌≡◌, ℕ, ◌^◌, ◌≤◌, ◌<◌, length}
-use Rattle.std.proofs.Math.Option.{none, some}
+use Rattle.std.specs.Prelude.{Bool, true, List, ◌≡◌, ℕ, ◌^◌, ◌≤◌, ◌<◌, length, None, Some}
 use Rattle.model.specs.RoundTrip.{IsMoment, IsOffset}
 use Rattle.model.specs.Rules.{allowed}
 use Rattle.model.specs.Clock.{Clock, fresh}
@@ -23,8 +22,8 @@ pub record ClockFits (c : Clock) : Type 0 where
   pub endpoint : endpoint_of c.trusted < 2 ^ 16
 
 abbrev pub TimerFits : Timer → Type 0
-TimerFits none = Unit {0}
-TimerFits (some seen) = IsOffset seen.offset
+TimerFits None = Unit {0}
+TimerFits (Some seen) = IsOffset seen.offset
 
 pub record ClientFits (c : Client) : Type 0 where
   pub period : IsMoment c.period
@@ -108,7 +107,7 @@ pub record Fresh (t : List ℕ) (lists : Bool) (zones windows build period : ℕ
   pub there : has_lists t ≡ lists
   pub store : store_in (table_in t) ≡ record { rules = record { zone_limit = limit_of lists zones; window_limit = limit_of lists windows }; lists = empty; generation = 0 }
   pub clock : clock_in t ≡ fresh build
-  pub timer : timer_in t ≡ none
+  pub timer : timer_in t ≡ None
   pub client : client_in t ≡ new_client period
 
 -- `new_is_fresh` in proofs/New.antt

@@ -1,12 +1,10 @@
 -- What the parts of an image stand for, and what writing one leaves. A part is given by its place, so that a second one can stand elsewhere.
-use Rattle.std.specs.Prelude.{Bool, true, false, cond, List, [], ◌∷◌, ◌++◌, ℕ, ◌+◌, replicate}
-use Rattle.std.proofs.Math.Option.{Option, none, some}
+use Rattle.std.specs.Prelude.{Bool, true, false, cond, List, [], ◌∷◌, ◌++◌, ℕ, ◌+◌, replicate, Option, None, Some, is_some}
 use Rattle.model.specs.declared.TimeGranularity.{TimeGranularity}
 use Rattle.model.specs.declared.TimeGranularity.TheVariants.{NoTime}
 use Rattle.model.specs.declared.TimeSource.{TimeSource}
 use Rattle.model.specs.declared.TimeSource.TheVariants as S
 use Rattle.model.specs.Numbers.{granularity_number, granularity_of, source_number, source_of}
-use Rattle.model.specs.Basics.{is_some}
 use Rattle.model.specs.Answers.{TrustedSource}
 use Rattle.model.specs.Bytes.{bytes, bits_of, signed}
 use Rattle.model.specs.Clock.{Clock, fresh}
@@ -23,16 +21,16 @@ use Rattle.image.specs.Layout.{magic, store_place, clock_place, client_place, ti
 
 -- a code out of range stands for NoTime and for None
 abbrev pub or_no_time : Option TimeGranularity → TimeGranularity
-or_no_time none = NoTime
-or_no_time (some g) = g
+or_no_time None = NoTime
+or_no_time (Some g) = g
 
 abbrev pub or_none : Option TimeSource → TimeSource
-or_none none = S.None
-or_none (some t) = t
+or_none None = S.None
+or_none (Some t) = t
 
 abbrev pub trusted_at : List ℕ → ℕ → Option TrustedSource
 trusted_at s at =
-    cond (mark_at s (at + 3)) (some (record { fabric = byte_at s (at + 4); node = word_at 8 s (at + 32); endpoint = word_at 2 s (at + 6) })) none
+    cond (mark_at s (at + 3)) (Some (record { fabric = byte_at s (at + 4); node = word_at 8 s (at + 32); endpoint = word_at 2 s (at + 6) })) None
 
 abbrev pub clock_at : List ℕ → ℕ → Clock
 clock_at s at =
@@ -47,7 +45,7 @@ clock_at s at =
 
 abbrev pub timer_at : List ℕ → ℕ → Timer
 timer_at s at =
-    cond (mark_at s at) (some (record { offset = signed (word_at 4 s (at + 4)); active = mark_at s (at + 1); usable = mark_at s (at + 2) })) none
+    cond (mark_at s at) (Some (record { offset = signed (word_at 4 s (at + 4)); active = mark_at s (at + 1); usable = mark_at s (at + 2) })) None
 
 abbrev pub client_at : List ℕ → ℕ → Client
 client_at s at =
@@ -75,7 +73,7 @@ has_lists s = mark_at s store_place
 
 -- the clock, and the list store where there is one
 abbrev pub device_in : List ℕ → Device
-device_in s = record { clock = clock_in s; store = cond (has_lists s) (some (store_in (table_in s))) none }
+device_in s = record { clock = clock_in s; store = cond (has_lists s) (Some (store_in (table_in s))) None }
 
 -- ## Bytes of the parts
 
@@ -85,16 +83,16 @@ bit false = 0
 
 -- the fabric, the node and the endpoint of a trusted source, zeros where there is none
 abbrev pub fabric_of : Option TrustedSource → ℕ
-fabric_of none = 0
-fabric_of (some t) = t.fabric
+fabric_of None = 0
+fabric_of (Some t) = t.fabric
 
 abbrev pub node_of : Option TrustedSource → ℕ
-node_of none = 0
-node_of (some t) = t.node
+node_of None = 0
+node_of (Some t) = t.node
 
 abbrev pub endpoint_of : Option TrustedSource → ℕ
-endpoint_of none = 0
-endpoint_of (some t) = t.endpoint
+endpoint_of None = 0
+endpoint_of (Some t) = t.endpoint
 
 -- 40 bytes
 unfoldable pub clock_bytes : Clock → List ℕ
@@ -105,8 +103,8 @@ clock_bytes c =
 
 -- 8 bytes
 unfoldable pub timer_bytes : Timer → List ℕ
-timer_bytes none = 0 ∷ 0 ∷ 0 ∷ 0 ∷ bytes 4 0
-timer_bytes (some seen) = 1 ∷ bit seen.active ∷ bit seen.usable ∷ 0 ∷ bytes 4 (bits_of seen.offset)
+timer_bytes None = 0 ∷ 0 ∷ 0 ∷ 0 ∷ bytes 4 0
+timer_bytes (Some seen) = 1 ∷ bit seen.active ∷ bit seen.usable ∷ 0 ∷ bytes 4 (bits_of seen.offset)
 
 -- 40 bytes
 unfoldable pub client_bytes : Client → List ℕ
@@ -140,7 +138,7 @@ new_bytes there zones windows build period =
     ++ ((bit there ∷ 0 ∷ 0 ∷ 0 ∷ [])
     ++ (clock_bytes (fresh build)
     ++ (client_bytes (new_client period)
-    ++ (timer_bytes none ++ T.new_bytes (record { zone_limit = limit_of there zones; window_limit = limit_of there windows })))))
+    ++ (timer_bytes None ++ T.new_bytes (record { zone_limit = limit_of there zones; window_limit = limit_of there windows })))))
 
 unfoldable pub new_image : List ℕ → Bool → ℕ → ℕ → ℕ → ℕ → List ℕ
 new_image s there zones windows build period = placed s 0 (new_bytes there zones windows build period)

@@ -1,4 +1,5 @@
-// The numbers that calls on an image return: of answers, and of effects, a byte each.
+// The numbers that calls on an image return: of answers, and of effects, a byte each. They stay numbers, since C reads them out of what a
+// call returns.
 
 // ## Answers: taken, or the number of a refusal
 

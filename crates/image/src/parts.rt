@@ -1,9 +1,6 @@
 // The clock, the timer and the client of an image, read and written.
-ghost use Rattle.std.specs.Prelude.{[], ◌∷◌, ◌++◌, ◌≡◌, ◌+◌, ◌≤◌, length};
-ghost use Rattle.model.specs.Basics.{is_some};
-ghost use Rattle.model.specs.Bytes.{bytes, bits_of};
-ghost use Rattle.model.specs.Maybe.{option_u64};
-ghost use Rattle.model.specs.Output.{or_zero};
+ghost use Rattle.std.specs.Prelude.{◌≡◌, ◌+◌, ◌≤◌, length, is_some};
+ghost use Rattle.model.specs.Bytes.{bytes, all_bytes};
 ghost use Rattle.model.specs.Numbers.{granularity_of, source_of};
 ghost use Rattle.rtc.specs.Meaning.{clock_of, option_source};
 ghost use Rattle.transition_timer.specs.Meaning.{timer_of};
@@ -12,13 +9,14 @@ ghost use Rattle.table.specs.Layout.{maybe_at};
 ghost use Rattle.table.specs.Layout as T;
 ghost use Rattle.word.specs.Place.{byte_at, put};
 ghost use Rattle.image.specs.Layout.{image_size, table_place};
-ghost use Rattle.image.specs.Parts.{or_no_time, or_none, trusted_at, clock_at, timer_at, client_at, clock_in, timer_in, client_in, bit, fabric_of, node_of, endpoint_of, clock_bytes, timer_bytes, client_bytes, limit_of, new_bytes, with_clock, with_timer, with_client, new_image};
+ghost use Rattle.image.specs.Limits.{rules_of, zones_of, windows_of};
+ghost use Rattle.image.specs.Parts.{or_no_time, or_none, trusted_at, clock_at, timer_at, client_at, clock_in, timer_in, client_in, clock_bytes, timer_bytes, client_bytes, new_bytes, with_clock, with_timer, with_client, new_image};
 
 use crate::place::{CLIENT, CLOCK, MAGIC, MAGIC_PLACE, SIZE, STORE, TABLE, TIMER, mark_at};
-use model::{GranularityRead, MaybeU64, SourceRead, TimeGranularity, TimeSource};
-use rtc::{MaybeSource, Rtc, TrustedTimeSource};
+use model::{TimeGranularity, TimeSource};
+use rtc::{Rtc, TrustedTimeSource};
 use time_sync_client::TimeSyncClient;
-use transition_timer::{LastSeen, Seen};
+use transition_timer::Seen;
 use word::or_zero::{i32_at, u8_at, u16_at, u64_at};
 
 // Inside the clock, whose first byte is the granularity.
@@ -29,8 +27,6 @@ pub const SET: usize = 2;
 pub const TRUSTED: usize = 3;
 
 pub const FABRIC: usize = 4;
-
-const BLANK: usize = 5;
 
 pub const ENDPOINT: usize = 6;
 
@@ -55,8 +51,6 @@ const MISSED: usize = 32;
 
 const FAILED: usize = 33;
 
-const CLIENT_REST: usize = 36;
-
 const CLIENT_SIZE: usize = 40;
 
 // Inside the timer, whose first byte is the mark that it has seen anything.
@@ -68,8 +62,28 @@ const OFFSET: usize = 4;
 
 const TIMER_SIZE: usize = 8;
 
-// How many bytes a moment has.
-const MOMENT: usize = 8;
+// Four moments, 8 bytes each.
+const MOMENTS: usize = 32;
+
+// What is written of a trusted time source that is missing.
+const NO_SOURCE: TrustedTimeSource = TrustedTimeSource {
+    fab_idx: 0,
+    node_id: 0,
+    endpoint: 0,
+};
+
+// What is written of a timer that saw nothing.
+const NOT_SEEN: Seen = Seen {
+    offset: 0,
+    active: false,
+    usable: false,
+};
+
+// The limits that are written without a list store.
+const NO_LISTS: Limits = Limits {
+    zones: 0,
+    windows: 0,
+};
 
 // ## Read: any place up to the end of an image
 
@@ -77,45 +91,33 @@ const MOMENT: usize = 8;
 fn granularity_at(s: &[u8], at: usize) -> TimeGranularity
     ensures { result ≡ or_no_time (granularity_of (byte_at s.now at)) }
 {
-    match numbers::granularity_of(u8_at(s, at)) {
-        GranularityRead::Is(granularity) => granularity,
-        GranularityRead::Bad => TimeGranularity::NoTime,
-    }
+    TimeGranularity::try_from(u8_at(s, at)).unwrap_or(TimeGranularity::NoTime)
 }
 
 // The time source; a code out of range stands for None.
 fn source_at(s: &[u8], at: usize) -> TimeSource
     ensures { result ≡ or_none (source_of (byte_at s.now at)) }
 {
-    match numbers::source_of(u8_at(s, at)) {
-        SourceRead::Is(source) => source,
-        SourceRead::Bad => TimeSource::None,
-    }
+    TimeSource::try_from(u8_at(s, at)).unwrap_or(TimeSource::None)
 }
 
 // The number of 8 bytes at a place, where its mark is set.
-fn maybe_at(s: &[u8], mark: usize, at: usize) -> MaybeU64
-    ensures { option_u64 result ≡ maybe_at s.now mark at }
+fn maybe_at(s: &[u8], mark: usize, at: usize) -> Option<u64>
+    ensures { result ≡ maybe_at s.now mark at }
 {
-    if mark_at(s, mark) {
-        return MaybeU64::Is(u64_at(s, at));
-    }
-    MaybeU64::Nothing
+    mark_at(s, mark).then(|| u64_at(s, at))
 }
 
 // The trusted time source of the clock at a place.
-fn trusted_at(s: &[u8], at: usize) -> MaybeSource
+fn trusted_at(s: &[u8], at: usize) -> Option<TrustedTimeSource>
     requires { at ≤ image_size }
     ensures { option_source result ≡ trusted_at s.now at }
 {
-    if mark_at(s, at + TRUSTED) {
-        return MaybeSource::Is(TrustedTimeSource {
-            fab_idx: u8_at(s, at + FABRIC),
-            node_id: u64_at(s, at + NODE),
-            endpoint: u16_at(s, at + ENDPOINT),
-        });
-    }
-    MaybeSource::Nothing
+    mark_at(s, at + TRUSTED).then(|| TrustedTimeSource {
+        fab_idx: u8_at(s, at + FABRIC),
+        node_id: u64_at(s, at + NODE),
+        endpoint: u16_at(s, at + ENDPOINT),
+    })
 }
 
 // The clock at a place.
@@ -134,18 +136,15 @@ fn rtc_at(s: &[u8], at: usize) -> Rtc
 }
 
 // What the timer at a place last saw.
-fn seen_at(s: &[u8], at: usize) -> LastSeen
+fn seen_at(s: &[u8], at: usize) -> Option<Seen>
     requires { at ≤ image_size }
     ensures { timer_of result ≡ timer_at s.now at }
 {
-    if mark_at(s, at) {
-        return LastSeen::Saw(Seen {
-            offset: i32_at(s, at + OFFSET),
-            active: mark_at(s, at + ACTIVE),
-            usable: mark_at(s, at + USABLE),
-        });
-    }
-    LastSeen::Nothing
+    mark_at(s, at).then(|| Seen {
+        offset: i32_at(s, at + OFFSET),
+        active: mark_at(s, at + ACTIVE),
+        usable: mark_at(s, at + USABLE),
+    })
 }
 
 // The client at a place.
@@ -169,7 +168,7 @@ pub fn rtc_in(s: &[u8]) -> Rtc
 }
 
 // What the timer last saw.
-pub fn seen_in(s: &[u8]) -> LastSeen
+pub fn seen_in(s: &[u8]) -> Option<Seen>
     ensures { timer_of result ≡ timer_in s.now }
 {
     seen_at(s, TIMER)
@@ -182,122 +181,55 @@ pub fn client_in(s: &[u8]) -> TimeSyncClient
     client_at(s, CLIENT)
 }
 
-// ## What is written of a value that may be missing
-
-// 1 for true, 0 for false.
-fn bit_of(b: bool) -> u8
-    ensures { result ≡ bit b }
-{
-    if b { 1 } else { 0 }
-}
-
-// 1 where there is a number.
-fn mark_of(n: MaybeU64) -> u8
-    ensures { result ≡ bit (is_some (option_u64 n)) }
-{
-    match n {
-        MaybeU64::Nothing => 0,
-        MaybeU64::Is(_) => 1,
-    }
-}
-
-// The number, or 0.
-fn number_of(n: MaybeU64) -> u64
-    ensures { result ≡ or_zero (option_u64 n) }
-{
-    match n {
-        MaybeU64::Nothing => 0,
-        MaybeU64::Is(v) => v,
-    }
-}
-
-// 1 where there is a trusted time source.
-fn trusted_mark(t: MaybeSource) -> u8
-    ensures { result ≡ bit (is_some (option_source t)) }
-{
-    match t {
-        MaybeSource::Nothing => 0,
-        MaybeSource::Is(_) => 1,
-    }
-}
-
-// The trusted time source, or zeros.
-fn trusted_or_zeros(t: MaybeSource) -> TrustedTimeSource
-    ensures { (result.fab_idx ≡ fabric_of (option_source t)) × (result.node_id ≡ node_of (option_source t)) × (result.endpoint ≡ endpoint_of (option_source t)) }
-{
-    match t {
-        MaybeSource::Nothing => TrustedTimeSource {
-            fab_idx: 0,
-            node_id: 0,
-            endpoint: 0,
-        },
-        MaybeSource::Is(source) => source,
-    }
-}
-
 // ## Written
 
-// Writes four bytes, one after another.
-fn put_bytes(s: &mut [u8], at: usize, a: u8, b: u8, c: u8, d: u8)
-    requires { at + 4 ≤ length s.old }
-    ensures { s.new ≡ put s.old at (a ∷ b ∷ c ∷ d ∷ []) }
+// Each part has a writer of its own: one over all three would take the place, the length and the writer as parameters, and be no shorter.
+
+// Writes bytes at a place.
+fn put_bytes<const N: usize>(s: &mut [u8], at: usize, values: [u8; N])
+    requires { at + N ≤ length s.old }
+    ensures { s.new ≡ put s.old at values.entry }
 {
-    s[at] = a;
-    s[at + 1] = b;
-    s[at + 2] = c;
-    s[at + 3] = d;
+    s[at..at + N].copy_from_slice(&values);
 }
 
-// Writes four moments, one after another.
-fn put_moments(s: &mut [u8], at: usize, a: u64, b: u64, c: u64, d: u64)
+// Writes four moments at a place, one after another.
+fn put_moments(s: &mut [u8], at: usize, moments: [u64; 4])
     requires { at + 32 ≤ length s.old }
-    ensures { s.new ≡ put s.old at (bytes 8 a ++ (bytes 8 b ++ (bytes 8 c ++ bytes 8 d))) }
+    ensures { s.new ≡ put s.old at (all_bytes (λ m. bytes 8 m) moments) }
 {
-    let second = at + MOMENT;
-    let third = second + MOMENT;
-    let fourth = third + MOMENT;
-    word::put_u64(s, at, a);
-    word::put_u64(s, second, b);
-    word::put_u64(s, third, c);
-    word::put_u64(s, fourth, d);
+    word::put_u64s(&mut s[at..at + MOMENTS], &moments, moments.len());
 }
 
-// Writes the fabric and the endpoint of the clock at a place.
-fn put_fabric(s: &mut [u8], at: usize, fabric: u8, endpoint: u16)
-    requires { at + 8 ≤ length s.old }
-    ensures { s.new ≡ put s.old (at + 4) (fabric ∷ 0 ∷ bytes 2 endpoint) }
-{
-    s[at + FABRIC] = fabric;
-    s[at + BLANK] = 0;
-    word::or_zero::put_u16(s, at + ENDPOINT, endpoint);
-}
-
-// Writes the clock at a place.
+// Writes the clock at a place; without a trusted time source there are zeros.
 fn write_clock(s: &mut [u8], at: usize, rtc: Rtc)
     requires { at + 40 ≤ length s.old }
     ensures { s.new ≡ put s.old at (clock_bytes (clock_of rtc)) }
 {
-    let granularity = rtc.granularity;
-    let source = rtc.source;
-    let anchor = rtc.anchor;
     let trusted = rtc.trusted_time_source;
-    let t = trusted_or_zeros(trusted);
+    let t = trusted.unwrap_or(NO_SOURCE);
     put_bytes(
         s,
         at,
-        numbers::granularity_number(granularity),
-        numbers::source_number(source),
-        mark_of(anchor),
-        trusted_mark(trusted),
+        [
+            u8::from(rtc.granularity),
+            u8::from(rtc.source),
+            u8::from(rtc.anchor.is_some()),
+            u8::from(trusted.is_some()),
+            t.fab_idx,
+            0,
+        ],
     );
-    put_fabric(s, at, t.fab_idx, t.endpoint);
+    word::or_zero::put_u16(s, at + ENDPOINT, t.endpoint);
     put_moments(
         s,
         at + UTC,
-        rtc.utc_us,
-        rtc.utc_us_persisted,
-        number_of(anchor),
-        t.node_id,
+        [
+            rtc.utc_us,
+            rtc.utc_us_persisted,
+            rtc.anchor.unwrap_or(0),
+            t.node_id,
+        ],
     );
 }
 
@@ -310,32 +242,27 @@ pub fn put_rtc(s: &mut [u8], rtc: Rtc)
     }
 }
 
-// Writes the marks and the offset of the timer at a place.
-fn put_timer(s: &mut [u8], at: usize, saw: u8, active: u8, usable: u8, offset: i32)
-    requires { at + 8 ≤ length s.old }
-    ensures { s.new ≡ put s.old at (saw ∷ active ∷ usable ∷ 0 ∷ bytes 4 (bits_of offset)) }
-{
-    put_bytes(s, at, saw, active, usable, 0);
-    word::put_i32(s, at + OFFSET, offset);
-}
-
-// Writes the timer at a place.
-fn write_timer(s: &mut [u8], at: usize, seen: LastSeen)
+// Writes the timer at a place; one that saw nothing is zeros.
+fn write_timer(s: &mut [u8], at: usize, seen: Option<Seen>)
     requires { at + 8 ≤ length s.old }
     ensures { s.new ≡ put s.old at (timer_bytes (timer_of seen)) }
 {
-    match seen {
-        LastSeen::Nothing => {
-            put_timer(s, at, 0, 0, 0, 0);
-        }
-        LastSeen::Saw(v) => {
-            put_timer(s, at, 1, bit_of(v.active), bit_of(v.usable), v.offset);
-        }
-    }
+    let v = seen.unwrap_or(NOT_SEEN);
+    put_bytes(
+        s,
+        at,
+        [
+            u8::from(seen.is_some()),
+            u8::from(v.active),
+            u8::from(v.usable),
+            0,
+        ],
+    );
+    word::put_i32(s, at + OFFSET, v.offset);
 }
 
 // Writes what the timer saw; on a slice that is too short nothing is written.
-pub fn put_seen(s: &mut [u8], seen: LastSeen)
+pub fn put_seen(s: &mut [u8], seen: Option<Seen>)
     ensures { s.new ≡ with_timer s.old (timer_of seen) }
 {
     if word::in_bounds(s, TIMER, TIMER_SIZE) {
@@ -353,13 +280,27 @@ fn write_client(s: &mut [u8], at: usize, client: TimeSyncClient)
     put_moments(
         s,
         at,
-        client.period,
-        client.retry,
-        number_of(missing),
-        number_of(failure),
+        [
+            client.period,
+            client.retry,
+            missing.unwrap_or(0),
+            failure.unwrap_or(0),
+        ],
     );
-    put_bytes(s, at + MISSED, mark_of(missing), mark_of(failure), 0, 0);
-    word::put_u32(s, at + CLIENT_REST, 0);
+    put_bytes(
+        s,
+        at + MISSED,
+        [
+            u8::from(missing.is_some()),
+            u8::from(failure.is_some()),
+            0,
+            0,
+            0,
+            0,
+            0,
+            0,
+        ],
+    );
 }
 
 // Writes the client; on a slice that is too short nothing is written.
@@ -373,40 +314,39 @@ pub fn put_client(s: &mut [u8], client: TimeSyncClient)
 
 // ## A new image
 
-// The limit, or 0 without a list store.
-fn limit_of(there: bool, n: u8) -> u8
-    ensures { result ≡ limit_of there n }
-{
-    if there { n } else { 0 }
+// The limits of a list store.
+#[derive(Clone, Copy, PartialEq, Eq)]
+pub struct Limits {
+    pub zones: u8,
+    pub windows: u8,
 }
 
 // Writes an empty table with these limits.
-fn put_table(s: &mut [u8], zones: u8, windows: u8)
+fn put_table(s: &mut [u8], limits: Limits)
     requires { image_size ≤ length s.old }
-    ensures { s.new ≡ put s.old table_place (T.new_bytes (record { zone_limit = zones; window_limit = windows })) }
+    ensures { s.new ≡ put s.old table_place (T.new_bytes (rules_of limits)) }
 {
-    let table = &mut s[TABLE..SIZE];
-    table::layout::put_new(table, zones, windows);
+    table::layout::put_new(&mut s[TABLE..SIZE], limits.zones, limits.windows);
 }
 
 // Writes the bytes of a new image.
-fn write_new(s: &mut [u8], lists: bool, zones: u8, windows: u8, build: u64, period: u64)
+fn write_new(s: &mut [u8], limits: Option<Limits>, build: u64, period: u64)
     requires { image_size ≤ length s.old }
-    ensures { s.new ≡ put s.old 0 (new_bytes lists zones windows build period) }
+    ensures { s.new ≡ put s.old 0 (new_bytes (is_some limits) (zones_of limits) (windows_of limits) build period) }
 {
     word::put_u32(s, MAGIC_PLACE, MAGIC);
-    put_bytes(s, STORE, bit_of(lists), 0, 0, 0);
+    put_bytes(s, STORE, [u8::from(limits.is_some()), 0, 0, 0]);
     write_clock(s, CLOCK, Rtc::new(build));
     write_client(s, CLIENT, TimeSyncClient::new(period));
-    write_timer(s, TIMER, LastSeen::Nothing);
-    put_table(s, limit_of(lists, zones), limit_of(lists, windows));
+    write_timer(s, TIMER, None);
+    put_table(s, limits.unwrap_or(NO_LISTS));
 }
 
-// Writes a new image over the front of the slice, where it fits; without a list store its limits are 0.
-pub fn put_new(s: &mut [u8], lists: bool, zones: u8, windows: u8, build: u64, period: u64)
-    ensures { s.new ≡ new_image s.old lists zones windows build period }
+// Writes a new image over the front of the slice, where it fits: with a list store of these limits, or with none.
+pub fn put_new(s: &mut [u8], limits: Option<Limits>, build: u64, period: u64)
+    ensures { s.new ≡ new_image s.old (is_some limits) (zones_of limits) (windows_of limits) build period }
 {
     if word::in_bounds(s, MAGIC_PLACE, SIZE) {
-        write_new(s, lists, zones, windows, build, period);
+        write_new(s, limits, build, period);
     }
 }

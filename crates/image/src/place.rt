@@ -33,6 +33,7 @@ pub fn mark_at(s: &[u8], at: usize) -> bool
 }
 
 // Whether the bytes are an image; longer ones are one too.
+#[tactic(auto, unfolding(crate::specs::Layout::is_image))]
 pub fn is_image(s: &[u8]) -> bool
     ensures { result ≡ is_image s.now }
 {

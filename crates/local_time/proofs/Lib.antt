@@ -1,3 +1,1 @@
-pub mod Sizes
-pub mod Held
 pub mod One

@@ -1,11 +1,11 @@
 -- Entries that stand one after another: what is left of n at index i is `entries_from entry i (n - i)`, what is before it `entries_from entry 0 i`.
+use Rattle.std.specs.Prelude.{None, Some, slice_get}
 use mathlib.Core.Bool.{Bool, true, false, ◌||◌}
 use mathlib.Core.List.{List, [], ◌∷◌, ◌++◌, map}
-use mathlib.Core.Option.{some, none}
 use mathlib.Core.Path.{◌≡◌, refl, ◌∙◌, ap}
 use Prim.Native.Nat.{ℕ, zero, suc, ◌+◌, ◌-◌, ◌≤◌, ◌<◌}
 use native.Mathlib.Omega.{arith}
-use lib.ListN.{length, get_elem?}
+use lib.ListN.{length}
 use Rattle.model.specs.Basics.{keep, any, first, last}
 use Rattle.model.proofs.Facts.{by_test}
 use Rattle.table.specs.Layout.{entries_from}
@@ -48,17 +48,17 @@ module _ {A : Type 0} (entry : ℕ → A) where
   length_entries i (suc n) = ap suc (length_entries (suc i) n)
 
   -- the entry at an index
-  entry_at : (i n k : ℕ) → k < n → get_elem? (entries_from entry i n) k ≡ some (entry (i + k))
+  entry_at : (i n k : ℕ) → k < n → slice_get (entries_from entry i n) k ≡ Some (entry (i + k))
   unfolding entries_from
   entry_at i zero k h = absurd (omega arith)
-  entry_at i (suc n) zero h = let e : i ≡ i + 0 = omega arith in ap (λ (j : ℕ). some (entry j)) e
+  entry_at i (suc n) zero h = let e : i ≡ i + 0 = omega arith in ap (λ (j : ℕ). Some (entry j)) e
   entry_at i (suc n) (suc k) h =
       let e : suc i + k ≡ i + suc k = omega arith in
-      entry_at (suc i) n k (omega arith) ∙ ap (λ (j : ℕ). some (entry j)) e
+      entry_at (suc i) n k (omega arith) ∙ ap (λ (j : ℕ). Some (entry j)) e
 
   -- the same from the first on
-  pub entry_here : (n k : ℕ) → k < n → get_elem? (entries_from entry 0 n) k ≡ some (entry k)
-  entry_here n k h = let e : 0 + k ≡ k = omega arith in entry_at 0 n k h ∙ ap (λ (j : ℕ). some (entry j)) e
+  pub entry_here : (n k : ℕ) → k < n → slice_get (entries_from entry 0 n) k ≡ Some (entry k)
+  entry_here n k h = let e : 0 + k ≡ k = omega arith in entry_at 0 n k h ∙ ap (λ (j : ℕ). Some (entry j)) e
 
   -- the entries are what their indices stand for
   pub by_index : (i n : ℕ) → entries_from entry i n ≡ map entry (entries_from (λ k. k) i n)
@@ -68,12 +68,12 @@ module _ {A : Type 0} (entry : ℕ → A) where
 
 module _ {A : Type 0} where
   -- none stands past the end
-  pub at_past : (l : List A) (i : ℕ) → length l ≤ i → get_elem? l i ≡ none
+  pub at_past : (l : List A) (i : ℕ) → length l ≤ i → slice_get l i ≡ None
   at_past [] i h = refl
   at_past (x ∷ l) zero h = absurd (omega arith)
   at_past (x ∷ l) (suc i) h = at_past l i (omega arith)
 
-  last_end : (xs : List A) (x : A) → last (xs ++ (x ∷ [])) ≡ some x
+  last_end : (xs : List A) (x : A) → last (xs ++ (x ∷ [])) ≡ Some x
   unfolding last
   last_end [] x = refl
   last_end (y ∷ []) x = refl
@@ -110,7 +110,7 @@ module _ {A : Type 0} (test : A → Bool) where
 
   module _ (entry : ℕ → A) where
     module _ (n i : ℕ) where
-      pub first_hit : i < n → test (entry i) ≡ true → first (keep test (entries_from entry i (n - i))) ≡ some (entry i)
+      pub first_hit : i < n → test (entry i) ≡ true → first (keep test (entries_from entry i (n - i))) ≡ Some (entry i)
       unfolding first keep
       first_hit h t = rw (next entry n i h, t)
 
@@ -119,7 +119,7 @@ module _ {A : Type 0} (test : A → Bool) where
       unfolding keep
       first_miss h t = rw (next entry n i h, t)
 
-      pub first_over : n ≤ i → first (keep test (entries_from entry i (n - i))) ≡ none
+      pub first_over : n ≤ i → first (keep test (entries_from entry i (n - i))) ≡ None
       unfolding first keep
       first_over h = rw (over entry n i h)
 
@@ -134,7 +134,7 @@ module _ {A : Type 0} (test : A → Bool) where
       unfolding any entries_from
       any_over h = let e : i ≡ 0 = omega arith in ap (λ (k : ℕ). any test (entries_from entry 0 k)) e
 
-      pub last_hit : 0 < i → test (entry (i - 1)) ≡ true → last (keep test (entries_from entry 0 i)) ≡ some (entry (i - 1))
+      pub last_hit : 0 < i → test (entry (i - 1)) ≡ true → last (keep test (entries_from entry 0 i)) ≡ Some (entry (i - 1))
       last_hit h t =
           ap (λ (xs : List A). last (keep test xs)) (previous entry i h) ∙ ap (λ (xs : List A). last xs) (keep_more (entries_from entry 0 (i - 1)) (entry (i - 1)) t)
           ∙ last_end (keep test (entries_from entry 0 (i - 1))) (entry (i - 1))
@@ -143,6 +143,6 @@ module _ {A : Type 0} (test : A → Bool) where
       last_miss h t =
           ap (λ (xs : List A). last (keep test xs)) (previous entry i h) ∙ ap (λ (xs : List A). last xs) (keep_same (entries_from entry 0 (i - 1)) (entry (i - 1)) t)
 
-      pub last_over : i ≤ 0 → last (keep test (entries_from entry 0 i)) ≡ none
+      pub last_over : i ≤ 0 → last (keep test (entries_from entry 0 i)) ≡ None
       unfolding last keep entries_from
       last_over h = let e : i ≡ 0 = omega arith in ap (λ (k : ℕ). last (keep test (entries_from entry 0 k))) e

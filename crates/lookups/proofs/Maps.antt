@@ -1,13 +1,13 @@
 -- A lookup among what the entries stand for is what the lookup among the entries stands for.
+use Rattle.std.specs.Prelude.{option_map}
 use mathlib.Core.Path.{◌≡◌, refl}
 use mathlib.Core.Bool.{Bool}
 use mathlib.Core.List.{List, [], ◌∷◌, map}
-use mathlib.Core.Option
 use Rattle.model.specs.Basics.{keep, last}
 use Rattle.model.proofs.Facts.{by_test}
 
 module _ {A B : Type 0} (f : A → B) where
-  pub last_map : (l : List A) → last (map f l) ≡ Option.map f (last l)
+  pub last_map : (l : List A) → last (map f l) ≡ option_map f (last l)
   unfolding last
   last_map [] = refl
   last_map (x ∷ []) = refl

@@ -1,17 +1,11 @@
 -- A name that is shown stands inside the table.
-use mathlib.Core.Bool.{Bool}
-use mathlib.Core.List.{List}
-use mathlib.Core.Path.{◌≡◌}
-use Prim.Native.Nat.{ℕ, zero, suc, ◌+◌, ◌-◌, ◌≤◌, ◌<◌}
-use native.Mathlib.Omega.{arith}
+use Rattle.std.proofs.Common.{◌≡◌, ℕ, zero, suc, ◌+◌, ◌-◌, ◌≤◌, ◌<◌, Bool, leb, ltb, eqb, ◌&&◌, List, Option, IfSome, arith}
 use borrow.Author.Tests.{ltb-true}
-use lib.Dec.{leb, ltb}
 use Rattle.model.specs.Basics.{keep, last}
 use Rattle.model.proofs.Facts.{by_test}
 use Rattle.table.specs.Layout.{mark_at, zone_count_place, zone_place, zone_at, entries_from, zone_count}
 use Rattle.table.proofs.Counts.{count_most, zone_stands}
 use Rattle.lookups.specs.declared.ZoneShown.{ZoneShown}
-use Rattle.lookups.specs.declared.ZoneListed.{ZoneListed}
 use Rattle.lookups.specs.Shown.{shown_at, shown_by, active_index, zone_listed_in}
 use Rattle.lookups.specs.Laws.{EndsInside, NameInPlace}
 use Rattle.lookups.proofs.Entries.{last_hit, last_miss}
@@ -19,12 +13,12 @@ use Rattle.lookups.proofs.Entries.{last_hit, last_miss}
 module _ (s : List ℕ) where
   -- of the zone with an index
   inside : (i : ℕ) → i < 8 → EndsInside (shown_at s (zone_place i))
-  inside i h = by_test (mark_at s (zone_place i + 12)) (λ e. rw e (omega arith)) (λ e. rw e (omega arith))
+  inside i h = by_test (mark_at s (zone_place i + 12)) (λ e. rw e (omega arith, omega arith)) (λ e. rw e tt)
 
   -- of the last of some zones that passes a test
   last_inside : (test : ℕ → Bool) (n : ℕ) → n ≤ 8 → EndsInside (shown_by s (last (keep test (entries_from (λ k. k) 0 n))))
   unfolding last keep entries_from
-  last_inside test zero h = omega arith
+  last_inside test zero h = tt
   last_inside test (suc n) h =
       let e : suc n - 1 ≡ n = omega arith in
       by_test (test (suc n - 1))
@@ -35,10 +29,11 @@ module _ (s : List ℕ) where
   unfolding active_index
   active_inside now = last_inside (λ i. leb (zone_at s (zone_place i)).start now) (zone_count s) (count_most zone_count_place 8 s)
 
-  listed_inside : (i : ℕ) → EndsInside (zone_listed_in s i).zone
+  listed_inside : (i : ℕ) → IfSome (zone_listed_in s i) EndsInside
   unfolding zone_listed_in
   listed_inside i =
-      by_test (ltb i (zone_count s)) (λ t. rw t (inside i (zone_stands s i (ltb-true i (zone_count s) t)).0)) (λ t. rw t (omega arith))
+      by_test (ltb i (zone_count s)) (λ t. rw t (inside i (zone_stands s i (ltb-true i (zone_count s) t)).0))
+      (λ t. by_test (eqb (zone_count s) 0 && eqb i 0) (λ u. rw (t, u) tt) (λ u. rw (t, u) tt))
 
 pub name_in_place : NameInPlace
 name_in_place s = (active_inside s, listed_inside s)
@@ -47,5 +42,5 @@ name_in_place s = (active_inside s, listed_inside s)
 pub active_name : (s : List ℕ) (now : ℕ) (z : ZoneShown) → z ≡ shown_by s (active_index s now) → EndsInside z
 active_name s now z e = rw e (active_inside s now)
 
-pub listed_name : (s : List ℕ) (i : ℕ) (r : ZoneListed) → r ≡ zone_listed_in s i → EndsInside r.zone
+pub listed_name : (s : List ℕ) (i : ℕ) (r : Option ZoneShown) → r ≡ zone_listed_in s i → IfSome r EndsInside
 listed_name s i r e = rw e (listed_inside s i)

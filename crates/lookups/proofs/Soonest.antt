@@ -1,16 +1,14 @@
 -- The soonest moment after now, as a loop finds it in the places of the entries: the best so far, and what is left.
+use Rattle.std.specs.Prelude.{Option, None, Some}
 use mathlib.Core.List.{List, [], ◌∷◌, ◌++◌}
-use mathlib.Core.Option.{Option, none, some}
 use mathlib.Core.Path.{◌≡◌, refl, sym, ◌∙◌, ap}
 use Prim.Native.Nat.{ℕ, ◌+◌, ◌-◌, ◌≤◌, ◌<◌, min}
 use native.Mathlib.Omega.{arith}
 use lib.Dec.{ltb}
 use borrow.Author.Tests.{ltb-true, le-ltb, ne_eqb}
-use Rattle.model.specs.declared.MaybeU64.TheVariants as U
 use Rattle.model.specs.Basics.{keep, least_of, smallest}
 use Rattle.model.specs.Lists.{Zone, Window}
 use Rattle.model.specs.Lookups.{later, zone_starts, window_bounds, end_then}
-use Rattle.model.specs.Maybe.{maybe_u64}
 use Rattle.model.proofs.Facts.{by_test}
 use Rattle.table.specs.Layout.{entries_from}
 use Rattle.lookups.specs.Transitions.{end_or_zero, sooner, soonest, moment_of}
@@ -21,7 +19,7 @@ unfolding least_of
 least_min b t [] = refl
 least_min b t (y ∷ ys) = omega arith
 
-found : (t : ℕ) → 0 < t → moment_of t ≡ U.Is t
+found : (t : ℕ) → 0 < t → moment_of t ≡ Some t
 unfolding moment_of
 found t h = rw (ne_eqb t 0 (λ e. absurd (omega arith)))
 
@@ -44,12 +42,12 @@ module _ (utc : ℕ) where
       (λ e. rw e (soonest_found b ts h))
 
   -- it is the smallest of those after now
-  pub soonest_smallest : (ts : List ℕ) → moment_of (soonest utc 0 ts) ≡ maybe_u64 (smallest (later utc ts))
+  pub soonest_smallest : (ts : List ℕ) → moment_of (soonest utc 0 ts) ≡ smallest (later utc ts)
   unfolding moment_of soonest sooner keep smallest
   soonest_smallest [] = refl
   soonest_smallest (t ∷ ts) =
       by_test (ltb utc t)
-      (λ e. let l = ltb-true utc t e in rw e (found (soonest utc t ts) (soonest_found t ts (omega arith)) ∙ ap U.Is (soonest_least t ts (omega arith))))
+      (λ e. let l = ltb-true utc t e in rw e (found (soonest utc t ts) (soonest_found t ts (omega arith)) ∙ ap Some (soonest_least t ts (omega arith))))
       (λ e. rw e (soonest_smallest ts))
 
   -- of two lists, one after the other
@@ -60,10 +58,10 @@ module _ (utc : ℕ) where
 
   -- ## Entry by entry
 
-  past_end : (best : ℕ) (u : Option ℕ) (ts : List ℕ) → soonest utc best (end_then u ts) ≡ soonest utc (sooner utc best (end_or_zero (maybe_u64 u))) ts
+  past_end : (best : ℕ) (u : Option ℕ) (ts : List ℕ) → soonest utc best (end_then u ts) ≡ soonest utc (sooner utc best (end_or_zero u)) ts
   unfolding soonest sooner end_or_zero
-  past_end best none ts = rw (le-ltb utc 0 (omega arith))
-  past_end best (some e) ts = refl
+  past_end best None ts = rw (le-ltb utc 0 (omega arith))
+  past_end best (Some e) ts = refl
 
   module _ (n i : ℕ) where
     -- one zone more is behind
@@ -80,7 +78,7 @@ module _ (utc : ℕ) where
     zones_over entry best h = ap (λ (zs : List Zone). soonest utc best (zone_starts zs)) (over entry n i h)
 
     -- one window more is behind
-    pub past_window : (entry : ℕ → Window) (best m r : ℕ) → i < n → m ≡ sooner utc best (entry i).start → r ≡ sooner utc m (end_or_zero (maybe_u64 (entry i).until))
+    pub past_window : (entry : ℕ → Window) (best m r : ℕ) → i < n → m ≡ sooner utc best (entry i).start → r ≡ sooner utc m (end_or_zero ((entry i).until))
         → soonest utc best (window_bounds (entries_from entry i (n - i))) ≡ soonest utc r (window_bounds (entries_from entry (i + 1) (n - (i + 1))))
     unfolding window_bounds soonest
     past_window entry best m r h e f =

@@ -1,26 +1,24 @@
 -- What is shown and listed of a table is what is defined on its lists.
-use mathlib.Core.Bool.{Bool, true, false, ◌&&◌, cond}
+use Rattle.std.specs.Prelude.{Option, None, Some, option_map, slice_get}
+use mathlib.Core.Bool.{Bool, true, false, cond}
 use mathlib.Core.List.{List}
-use mathlib.Core.Option.{Option, some, none, map}
 use mathlib.Core.Path.{◌≡◌, refl, sym, ◌∙◌, ap}
-use Prim.Native.Nat.{ℕ, zero, suc, ◌+◌, ◌≤◌, ◌<◌, min}
+use Prim.Native.Nat.{ℕ, zero, suc, ◌+◌, ◌≤◌, min}
 use native.Mathlib.Omega.{arith}
-use borrow.Author.Tests.{ltb-true, ltb-false, lt-ltb, le-ltb, eq-eqb, ne_eqb}
+use borrow.Author.Tests.{ltb-true, ltb-false, le-ltb, eq-eqb, ne_eqb}
 use lib.Dec.{leb, ltb, eqb}
 use lib.IntN.{ℤ}
-use lib.ListN.{length, take, drop, get_elem?}
-use Rattle.model.specs.declared.MaybeU64.{MaybeU64}
+use lib.ListN.{length, take, drop}
 use Rattle.model.specs.Basics.{keep, last}
 use Rattle.model.specs.Lists.{Name, Zone, Window}
 use Rattle.model.specs.Lookups as L
-use Rattle.model.specs.Maybe.{option_u64, maybe_u64}
 use Rattle.model.proofs.Facts.{by_test}
-use Rattle.model.proofs.Maybe.{moment_back}
-use Rattle.word.specs.Place.{byte_at, word_at}
-use Rattle.table.specs.Layout.{mark_at, maybe_at, zone_count_place, window_count_place, zone_place, window_place, zone_at, window_at, entries_from, zone_count, window_count, zones_in, windows_in}
+use Rattle.word.specs.Place.{byte_at}
+use Rattle.table.specs.Layout.{mark_at, zone_count_place, window_count_place, zone_place, window_place, zone_at, window_at, entries_from, zone_count, window_count, zones_in, windows_in}
 use Rattle.table.proofs.Counts.{count_most}
-use Rattle.lookups.specs.Shown.{shown_at, blank_shown, shown_by, zone_indices, active_index, listed_of, zone_listed_in, window_shown, window_listed, window_listed_in}
-use Rattle.lookups.specs.Laws.{zone_now_in, zone_in, zone_listed_of, window_listed_of, ActiveShown, ZoneListedMeans, WindowListedMeans}
+use Rattle.lookups.specs.declared.NamePlace.{NamePlace}
+use Rattle.lookups.specs.Shown.{shown_at, shown_by, zone_indices, active_index, listed_of, zone_listed_in, window_listed_in}
+use Rattle.lookups.specs.Laws.{zone_now_in, zone_in, zone_listed_of, ActiveShown, ZoneListedMeans, WindowListedMeans}
 use Rattle.lookups.proofs.Entries.{length_entries, entry_here, by_index, at_past}
 use Rattle.lookups.proofs.Maps.{last_map, keep_map}
 
@@ -31,19 +29,6 @@ zone_with_index s i = zone_at s (zone_place i)
 abbrev pub window_with_index : List ℕ → ℕ → Window
 window_with_index s i = window_at s (window_place i)
 
--- ## A mark and the number that it stands before
-
-module _ (s : List ℕ) (mark at : ℕ) where
-  pub not_there : byte_at s mark ≡ 0 → maybe_at s mark at ≡ none
-  not_there h = rw (eq-eqb (byte_at s mark) 0 h)
-
-  pub is_there : 0 < byte_at s mark → maybe_at s mark at ≡ some (word_at 8 s at)
-  is_there h = rw (ne_eqb (byte_at s mark) 0 (λ e. absurd (omega arith)))
-
--- the moment that an answer stands for
-pub said : (o : Option ℕ) (r m : MaybeU64) → r ≡ maybe_u64 o → r ≡ m → o ≡ option_u64 m
-said o r m e q = sym (moment_back o) ∙ ap option_u64 (sym e ∙ q)
-
 -- no window is there exactly where their number is 0
 pub none_there : (entry : ℕ → Window) (n : ℕ) → eqb n 0 ≡ L.is_empty (entries_from entry 0 n)
 unfolding entries_from
@@ -52,8 +37,11 @@ none_there entry (suc n) = ne_eqb (suc n) 0 (λ h. let z : ◌≡◌ {A = ℕ} (
 
 -- ## The active zone
 
+abbrev place : ℕ → ℕ → NamePlace
+place a n = record { at = a; len = n }
+
 -- a name that is shown is the name in its place
-name_is : (s : List ℕ) (b : Bool) (at n : ℕ) → cond b (some (take (cond b n 0) (drop (cond b at 0) s))) none ≡ cond b (some (take n (drop at s))) none
+name_is : (s : List ℕ) (b : Bool) (at n : ℕ) → option_map (λ p. take p.len (drop p.at s)) (cond b (Some (place at n)) None) ≡ cond b (Some (take n (drop at s))) None
 name_is s true at n = refl
 name_is s false at n = refl
 
@@ -63,9 +51,9 @@ now_with o n = record { offset = o; name = n }
 abbrev zone_with : ℤ → ℕ → Option Name → Zone
 zone_with o t n = record { offset = o; start = t; name = n }
 
-shown_is : (s : List ℕ) (o : Option ℕ) → zone_now_in s (shown_by s o) ≡ L.zone_now (map (zone_with_index s) o)
-shown_is s none = refl
-shown_is s (some i) =
+shown_is : (s : List ℕ) (o : Option ℕ) → zone_now_in s (shown_by s o) ≡ L.zone_now (option_map (zone_with_index s) o)
+shown_is s None = refl
+shown_is s (Some i) =
     let at = zone_place i in
     ap (now_with (zone_with_index s i).offset) (name_is s (mark_at s (at + 12)) (at + 14) (min (byte_at s (at + 13)) 64))
 
@@ -80,29 +68,12 @@ active_shown s now =
 
 -- ## Listing
 
-module _ (s : List ℕ) (i : ℕ) where
-  pub listed_there : i < zone_count s → zone_listed_in s i ≡ record { there = true; zone = shown_at s (zone_place i) }
-  unfolding zone_listed_in
-  listed_there h = rw (lt-ltb i (zone_count s) h)
-
-  pub listed_past : zone_count s ≤ i → zone_listed_in s i ≡ record { there = eqb (zone_count s) 0 && eqb i 0; zone = blank_shown }
-  unfolding zone_listed_in
-  listed_past h = rw (le-ltb i (zone_count s) h)
-
-  pub window_there : i < window_count s → window_listed_in s i ≡ window_listed (some (window_shown (window_with_index s i)))
-  unfolding window_listed_in
-  window_there h = rw (lt-ltb i (window_count s) h)
-
-  pub window_past : window_count s ≤ i → window_listed_in s i ≡ window_listed none
-  unfolding window_listed_in
-  window_past h = rw (le-ltb i (window_count s) h)
-
 zone_is : (s : List ℕ) (i : ℕ) → zone_in s (shown_at s (zone_place i)) ≡ zone_with_index s i
 zone_is s i =
     let at = zone_place i in
     ap (zone_with (zone_with_index s i).offset (zone_with_index s i).start) (name_is s (mark_at s (at + 12)) (at + 14) (min (byte_at s (at + 13)) 64))
 
-listed_means : (s : List ℕ) (i n : ℕ) → zone_listed_of s (listed_of s i n) ≡ get_elem? (L.listed (entries_from (zone_with_index s) 0 n)) i
+listed_means : (s : List ℕ) (i n : ℕ) → zone_listed_of s (listed_of s i n) ≡ slice_get (L.listed (entries_from (zone_with_index s) 0 n)) i
 unfolding entries_from
 listed_means s zero zero = refl
 listed_means s (suc i) zero =
@@ -111,7 +82,7 @@ listed_means s (suc i) zero =
 listed_means s i (suc n) =
     let zs = entries_from (zone_with_index s) 0 (suc n) in
     by_test (ltb i (suc n))
-    (λ t. rw t (ap (λ (z : Zone). some z) (zone_is s i) ∙ sym (entry_here (zone_with_index s) (suc n) i (ltb-true i (suc n) t))))
+    (λ t. rw t (ap (λ (z : Zone). Some z) (zone_is s i) ∙ sym (entry_here (zone_with_index s) (suc n) i (ltb-true i (suc n) t))))
     (λ t.
     let z : eqb (suc n) 0 ≡ false = ne_eqb (suc n) 0 (λ h. let z : ◌≡◌ {A = ℕ} (suc n) 0 = h in absurd (omega arith)) in
     let h = ltb-false i (suc n) t in
@@ -121,22 +92,15 @@ pub zone_listed_lem : ZoneListedMeans
 unfolding zone_listed_in zones_in L.zone_at
 zone_listed_lem s i = listed_means s i (zone_count s)
 
-abbrev window_with : ℤ → ℕ → Option ℕ → Window
-window_with o t u = record { offset = o; start = t; until = u }
-
-listed_window : (w : Window) → window_listed_of (window_listed (some (window_shown w))) ≡ some w
-listed_window w = ap (λ (u : Option ℕ). some (window_with w.offset w.start u)) (moment_back w.until)
-
 pub window_listed_lem : WindowListedMeans
-unfolding windows_in L.window_at
+unfolding window_listed_in windows_in L.window_at
 window_listed_lem s i =
     let n = window_count s in
-    let ws = entries_from (window_with_index s) 0 n in
     by_test (ltb i n)
-    (λ t. let h = ltb-true i n t in ap window_listed_of (window_there s i h) ∙ listed_window (window_with_index s i) ∙ sym (entry_here (window_with_index s) n i h))
+    (λ t. rw t (sym (entry_here (window_with_index s) n i (ltb-true i n t))))
     (λ t.
     let h = ltb-false i n t in
-    ap window_listed_of (window_past s i h) ∙ sym (at_past ws i (omega (arith, length_entries (window_with_index s) 0 n))))
+    rw t (sym (at_past (entries_from (window_with_index s) 0 n) i (omega (arith, length_entries (window_with_index s) 0 n)))))
 
 -- ## How many there are
 

@@ -1,6 +1,6 @@
 -- The walk so far: the moments behind, and the walk that is left.
+use Rattle.std.specs.Prelude.{Option, None, Some}
 use mathlib.Core.List.{List, [], ◌∷◌, ◌++◌}
-use mathlib.Core.Option.{Option, none, some}
 use mathlib.Core.Path.{◌≡◌, refl, sym, ◌∙◌, ap}
 use Prim.Native.Nat.{ℕ, zero, suc, ◌+◌, ◌*◌, ◌-◌, ◌≤◌, ◌<◌}
 use native.Mathlib.Omega.{arith}
@@ -22,8 +22,8 @@ use Rattle.lookups.proofs.Views.{few_zones, few_windows}
 -- ## How many boundaries there are
 
 with_end : (u : Option ℕ) (bs : List ℕ) (n : ℕ) → length bs ≤ 2 * n → suc (length (end_then u bs)) ≤ 2 * suc n
-with_end none bs n h = omega arith
-with_end (some e) bs n h = omega arith
+with_end None bs n h = omega arith
+with_end (Some e) bs n h = omega arith
 
 length_bounds : (ws : List Window) → length (window_bounds ws) ≤ 2 * length ws
 unfolding window_bounds
@@ -64,6 +64,9 @@ zeros_more : (n : ℕ) → 0 < n → zeros n ≡ 0 ∷ zeros (n - 1)
 zeros_more zero h = absurd (omega arith)
 zeros_more (suc n) h = let e : suc n - 1 ≡ n = omega arith in rw e
 
+abbrev by_value : List ℕ → ℕ → Walk
+by_value out steps = record { moments = out; steps = steps }
+
 -- a walk by value with room for `most` steps
 abbrev pub owned : ℕ → M.Walk → Walk
 owned most w = record { moments = padded (suc most) 0 w.moments; steps = w.steps }
@@ -73,16 +76,16 @@ owned_is : (most : ℕ) (out ms : List ℕ) (steps n : ℕ) (w : M.Walk) → out
 owned_is most out ms steps n w o e q = rw (o, e, q)
 
 module _ (l : Lists) where
-  step_less : (s m : ℕ) → next_transition l s ≡ some m → M.different_later l s ≡ suc (M.different_later l m)
+  step_less : (s m : ℕ) → next_transition l s ≡ Some m → M.different_later l s ≡ suc (M.different_later l m)
   unfolding next_transition M.different_later
   step_less s m e = fewer_left s m (boundaries l) (first_after s m (boundaries l) e)
 
-  stands : (fuel s : ℕ) → next_transition l s ≡ none → M.walk_from l fuel s ≡ M.standing s
+  stands : (fuel s : ℕ) → next_transition l s ≡ None → M.walk_from l fuel s ≡ M.standing s
   unfolding M.walk_from
   stands zero s e = refl
   stands (suc fuel) s e = rw e
 
-  goes_on_lem : (fuel s m : ℕ) → next_transition l s ≡ some m → M.walk_from l (suc fuel) s ≡ M.step_before s (M.walk_from l fuel m)
+  goes_on_lem : (fuel s m : ℕ) → next_transition l s ≡ Some m → M.walk_from l (suc fuel) s ≡ M.step_before s (M.walk_from l fuel m)
   unfolding M.walk_from
   goes_on_lem fuel s m e = rw e
 
@@ -115,7 +118,7 @@ module _ (l : Lists) where
           whole = refl;
         }
 
-    more : (out : List ℕ) (steps at m : ℕ) (s : Sofar out steps at) → next_transition l at ≡ some m → (fuel : ℕ) → s.fuel ≡ suc fuel
+    more : (out : List ℕ) (steps at m : ℕ) (s : Sofar out steps at) → next_transition l at ≡ Some m → (fuel : ℕ) → s.fuel ≡ suc fuel
         → Sofar (set out (steps + 1) m) (steps + 1) m
     more out steps at m s e fuel q =
         let f = step_less at m e in
@@ -135,14 +138,14 @@ module _ (l : Lists) where
           whole = s.whole ∙ ap (λ (k : ℕ). behind s.past (M.walk_from l k at)) q ∙ ap (behind s.past) (goes_on_lem fuel at m e) ∙ sym (behind_more s.past at (M.walk_from l fuel m));
         }
 
-    pub sofar_more : (out : List ℕ) (steps at m : ℕ) → Sofar out steps at → next_transition l at ≡ some m → Sofar (set out (steps + 1) m) (steps + 1) m
+    pub sofar_more : (out : List ℕ) (steps at m : ℕ) → Sofar out steps at → next_transition l at ≡ Some m → Sofar (set out (steps + 1) m) (steps + 1) m
     sofar_more out steps at m s e = by_fuel s.fuel refl
       where
         by_fuel : (k : ℕ) → s.fuel ≡ k → Sofar (set out (steps + 1) m) (steps + 1) m
         by_fuel zero q = let f = step_less at m e in absurd (omega (arith, s.enough))
         by_fuel (suc k) q = more out steps at m s e k q
 
-    pub sofar_end : (out : List ℕ) (steps at : ℕ) → Sofar out steps at → next_transition l at ≡ none → record { moments = out; steps = steps } ≡ owned most (M.walk l start)
+    pub sofar_end : (out : List ℕ) (steps at : ℕ) → Sofar out steps at → next_transition l at ≡ None → record { moments = out; steps = steps } ≡ owned most (M.walk l start)
     sofar_end out steps at s e =
         let ms = s.past ++ (at ∷ []) in
         let n : length ms ≡ steps + 1 = omega (arith, length-append s.past (at ∷ []), s.count) in
@@ -156,12 +159,17 @@ module _ (l : Lists) where
         owned_is most out ms steps (length s.past) (M.walk l start) o (sym s.count) w
 
     -- where there is no room none is left
-    pub sofar_full : (out : List ℕ) (steps at : ℕ) → Sofar out steps at → most ≤ steps → next_transition l at ≡ none
+    sofar_full : (out : List ℕ) (steps at : ℕ) → Sofar out steps at → most ≤ steps → next_transition l at ≡ None
     sofar_full out steps at s h = by_next (next_transition l at) refl
       where
-        by_next : (o : Option ℕ) → next_transition l at ≡ o → o ≡ none
-        by_next none e = refl
-        by_next (some m) e = let f = step_less at m e in absurd (omega (arith, s.few, s.left))
+        by_next : (o : Option ℕ) → next_transition l at ≡ o → o ≡ None
+        by_next None e = refl
+        by_next (Some m) e = let f = step_less at m e in absurd (omega (arith, s.few, s.left))
+
+    -- after the most steps the walk is over
+    pub sofar_done : (out : List ℕ) (steps at : ℕ) → Sofar out steps at → most ≡ steps → record { moments = out; steps = most } ≡ owned most (M.walk l start)
+    sofar_done out steps at s e =
+        ap (λ (n : ℕ). by_value out n) e ∙ sofar_end out steps at s (sofar_full out steps at s (omega arith))
 
 -- ## Nothing is cut off
 

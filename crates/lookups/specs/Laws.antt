@@ -1,15 +1,11 @@
 -- What is shown of a table is what is defined on its lists; the proofs stand in proofs/.
-use Rattle.std.specs.Prelude.{cond, List, ◌≡◌, ℕ, suc, ◌+◌, ◌≤◌, take, drop}
-use Rattle.std.proofs.Math.Option.{Option, none, some}
+use Rattle.std.specs.Prelude.{List, ◌≡◌, ℕ, suc, ◌+◌, ◌≤◌, take, drop, Option, option_map, IfSome}
 use Rattle.model.specs.Lists.{Name, Zone, Window}
 use Rattle.model.specs.Lookups as L
-use Rattle.model.specs.Maybe.{option_u64}
 use Rattle.model.specs.Walk.{walk}
 use Rattle.table.specs.Layout.{table_size, lists_in}
 use Rattle.lookups.specs.declared.ZoneShown.{ZoneShown}
-use Rattle.lookups.specs.declared.ZoneListed.{ZoneListed}
 use Rattle.lookups.specs.declared.DSTOffsetEntry.{DSTOffsetEntry}
-use Rattle.lookups.specs.declared.DSTOffsetListed.{DSTOffsetListed}
 use Rattle.lookups.specs.Shown.{shown_by, active_index, zone_listed_in, window_listed_in}
 use Rattle.lookups.specs.Transitions.{walk_owned}
 
@@ -17,7 +13,7 @@ use Rattle.lookups.specs.Transitions.{walk_owned}
 
 -- the name that is shown, out of the table
 abbrev pub shown_name : List ℕ → ZoneShown → Option Name
-shown_name s z = cond z.named (some (take z.name_len (drop z.name_at s))) none
+shown_name s z = option_map (λ p. take p.len (drop p.at s)) z.name
 
 abbrev pub zone_now_in : List ℕ → ZoneShown → L.ZoneNow
 zone_now_in s z = record { offset = z.offset; name = shown_name s z }
@@ -25,18 +21,18 @@ zone_now_in s z = record { offset = z.offset; name = shown_name s z }
 abbrev pub zone_in : List ℕ → ZoneShown → Zone
 zone_in s z = record { offset = z.offset; start = z.valid_at; name = shown_name s z }
 
-abbrev pub zone_listed_of : List ℕ → ZoneListed → Option Zone
-zone_listed_of s r = cond r.there (some (zone_in s r.zone)) none
+abbrev pub zone_listed_of : List ℕ → Option ZoneShown → Option Zone
+zone_listed_of s r = option_map (zone_in s) r
 
 abbrev pub window_of : DSTOffsetEntry → Window
-window_of w = record { offset = w.offset; start = w.valid_starting; until = option_u64 w.valid_until }
+window_of w = record { offset = w.offset; start = w.valid_starting; until = w.valid_until }
 
-abbrev pub window_listed_of : DSTOffsetListed → Option Window
-window_listed_of r = cond r.there (some (window_of r.window)) none
+abbrev pub window_listed_of : Option DSTOffsetEntry → Option Window
+window_listed_of r = option_map window_of r
 
--- the place of the name that is shown ends inside a table
+-- a name that is shown ends inside a table, and is no longer than the longest name
 abbrev pub EndsInside : ZoneShown → Type 0
-EndsInside z = z.name_at + z.name_len ≤ table_size
+EndsInside z = IfSome z.name (λ p. (p.at + p.len ≤ table_size) × (p.len ≤ 64))
 
 -- ## Laws
 
@@ -54,7 +50,7 @@ WindowListedMeans = (s : List ℕ) (i : ℕ) → window_listed_of (window_listed
 
 -- `name_in_place`: a name that is shown, of the active zone or of a listed one, stands inside the table
 abbrev pub NameInPlace : Type 0
-NameInPlace = (s : List ℕ) → ((now : ℕ) → EndsInside (shown_by s (active_index s now))) × ((i : ℕ) → EndsInside (zone_listed_in s i).zone)
+NameInPlace = (s : List ℕ) → ((now : ℕ) → EndsInside (shown_by s (active_index s now))) × ((i : ℕ) → IfSome (zone_listed_in s i) EndsInside)
 
 -- `holds_the_walk`: the 41 moments of a walk by value hold every moment of the walk
 abbrev pub HoldsTheWalk : Type 0

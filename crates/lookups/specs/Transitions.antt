@@ -1,14 +1,12 @@
 -- The soonest of some moments, as it is found one by one; and a walk by value.
-use Rattle.std.specs.Prelude.{cond, List, [], ◌∷◌, ◌++◌, ℕ, ◌-◌, min, eqb, ltb, length, take, replicate}
-use Rattle.model.specs.declared.MaybeU64.{MaybeU64}
-use Rattle.model.specs.declared.MaybeU64.TheVariants as U
+use Rattle.std.specs.Prelude.{cond, List, [], ◌∷◌, ◌++◌, ℕ, ◌-◌, min, eqb, ltb, length, take, replicate, Option, None, Some}
 use Rattle.model.specs.Walk as M
 use Rattle.lookups.specs.declared.Walk.{Walk}
 
 -- an end, or 0 where there is none: 0 is after no moment
-unfoldable pub end_or_zero : MaybeU64 → ℕ
-end_or_zero U.Nothing = 0
-end_or_zero (U.Is e) = e
+unfoldable pub end_or_zero : Option ℕ → ℕ
+end_or_zero None = 0
+end_or_zero (Some e) = e
 
 -- the sooner of the best so far, 0 for none, and a moment, if that is after now
 unfoldable pub sooner : ℕ → ℕ → ℕ → ℕ
@@ -20,8 +18,8 @@ soonest now best [] = best
 soonest now best (t ∷ ts) = soonest now (sooner now best t) ts
 
 -- a moment that was found, or none for 0
-unfoldable pub moment_of : ℕ → MaybeU64
-moment_of t = cond (eqb t 0) U.Nothing (U.Is t)
+unfoldable pub moment_of : ℕ → Option ℕ
+moment_of t = cond (eqb t 0) None (Some t)
 
 module _ {A : Type 0} where
   -- a list cut or filled up to `n` entries

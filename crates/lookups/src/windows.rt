@@ -1,28 +1,24 @@
-// Lookups in the list of windows.
+// Lookups in the list of windows. The searches are loops: for a chain over indices from the end (`rev().any(..)`) std has no lemma that
+// names its answer, and the proof by what each call answered did not close.
 ghost use Rattle.std.specs.Prelude.{◌≡◌, ◌<◌, ◌≤◌, length};
-ghost use Rattle.std.proofs.Math.Option.{some, none};
-ghost use Rattle.model.specs.Bytes.{signed};
 ghost use Rattle.model.specs.Lookups.{is_active, is_usable, active_offset, last_active_window, offset_of, usable, table_empty};
-ghost use Rattle.model.specs.Maybe.{maybe_i32, maybe_u64};
-ghost use Rattle.word.specs.Place.{word_at};
 ghost use Rattle.table.specs.Layout.{table_size, window_place, window_at, lists_in};
-ghost use Rattle.lookups.specs.Shown.{window_shown, window_listed, window_listed_in};
+ghost use Rattle.lookups.specs.Shown.{window_listed_in};
 
 use crate::held::{i32_at, u64_at};
-use crate::{DSTOffsetEntry, DSTOffsetListed, window_place};
-use model::{MaybeI32, MaybeU64};
+use crate::{DSTOffsetEntry, window_place};
 use table::layout::{END, MARK, START, window_count};
 
 // The end of the window with index i, if it has one.
-pub(crate) fn window_end(table: &[u8], i: usize) -> MaybeU64
+pub(crate) fn window_end(table: &[u8], i: usize) -> Option<u64>
     requires { (i < 16) × (table_size ≤ length table.now) }
-    ensures { result ≡ maybe_u64 (window_at table.now (window_place i)).until }
+    ensures { result ≡ (window_at table.now (window_place i)).until }
 {
     let at = window_place(i);
     if table[at + MARK] == 0 {
-        return MaybeU64::Nothing;
+        return None;
     }
-    MaybeU64::Is(u64_at(table, at + END))
+    Some(u64_at(table, at + END))
 }
 
 // The window with index i is open or its end is after now, started or not.
@@ -30,11 +26,7 @@ fn is_usable(table: &[u8], i: usize, utc: u64) -> bool
     requires { (i < 16) × (table_size ≤ length table.now) }
     ensures { result ≡ is_usable utc (window_at table.now (window_place i)) }
 {
-    let end = window_end(table, i);
-    match end {
-        MaybeU64::Nothing => true,
-        MaybeU64::Is(e) => utc < e,
-    }
+    window_end(table, i).is_none_or(|end| utc < end)
 }
 
 // The window with index i has started and has not ended; the start of one that has ended is not read.
@@ -42,57 +34,41 @@ fn is_active(table: &[u8], i: usize, utc: u64) -> bool
     requires { (i < 16) × (table_size ≤ length table.now) }
     ensures { result ≡ is_active utc (window_at table.now (window_place i)) }
 {
-    if is_usable(table, i, utc) {
-        return u64_at(table, window_place(i) + START) <= utc;
-    }
-    false
-}
-
-// The offset of the window with index i.
-fn offset_of(table: &[u8], i: usize) -> MaybeI32
-    requires { (i < 16) × (table_size ≤ length table.now) }
-    ensures { result ≡ MaybeI32.Is (signed (word_at 4 table.now (window_place i))) }
-{
-    MaybeI32::Is(i32_at(table, window_place(i)))
+    is_usable(table, i, utc) && u64_at(table, window_place(i) + START) <= utc
 }
 
 // The offset of the first active window.
-pub fn active_dst_offset(table: &[u8], utc: u64) -> MaybeI32
-    ensures { result ≡ maybe_i32 (active_offset (lists_in table.now) utc) }
+#[tactic(auto, using(crate::proofs::Entries::first_hit, crate::proofs::Entries::first_miss, crate::proofs::Entries::first_over), unfolding(model::specs::Lookups::active_offset, model::specs::Lookups::active_window, table::specs::Layout::windows_in))]
+pub fn active_dst_offset(table: &[u8], utc: u64) -> Option<i32>
+    ensures { result ≡ active_offset (lists_in table.now) utc }
 {
-    let n = window_count(table);
-    let mut i: usize = 0;
-    while i < n {
-        let w = i;
-        i += 1;
-        if is_active(table, w, utc) {
-            return offset_of(table, w);
+    for i in 0..window_count(table) {
+        if is_active(table, i, utc) {
+            return Some(i32_at(table, window_place(i)));
         }
     }
-    MaybeI32::Nothing
+    None
 }
 
 // The offset of the last active window, looked for from the end.
-pub fn last_active_dst_offset(table: &[u8], utc: u64) -> MaybeI32
-    ensures { result ≡ maybe_i32 (offset_of (last_active_window (lists_in table.now) utc)) }
+#[tactic(auto, using(crate::proofs::Entries::last_hit, crate::proofs::Entries::last_miss, crate::proofs::Entries::last_over), unfolding(model::specs::Lookups::last_active_window, table::specs::Layout::windows_in))]
+pub fn last_active_dst_offset(table: &[u8], utc: u64) -> Option<i32>
+    ensures { result ≡ offset_of (last_active_window (lists_in table.now) utc) }
 {
-    let mut i = window_count(table);
-    while 0 < i {
-        i -= 1;
+    for i in (0..window_count(table)).rev() {
         if is_active(table, i, utc) {
-            return offset_of(table, i);
+            return Some(i32_at(table, window_place(i)));
         }
     }
-    MaybeI32::Nothing
+    None
 }
 
 // Some window is open or ends after now, looked for from the end: the last window runs out last.
+#[tactic(auto, using(crate::proofs::Entries::any_hit, crate::proofs::Entries::any_miss, crate::proofs::Entries::any_over), unfolding(model::specs::Lookups::usable, table::specs::Layout::windows_in))]
 pub fn dst_usable(table: &[u8], utc: u64) -> bool
     ensures { result ≡ usable (lists_in table.now) utc }
 {
-    let mut i = window_count(table);
-    while 0 < i {
-        i -= 1;
+    for i in (0..window_count(table)).rev() {
         if is_usable(table, i, utc) {
             return true;
         }
@@ -101,50 +77,25 @@ pub fn dst_usable(table: &[u8], utc: u64) -> bool
 }
 
 // There is no window at all.
+#[tactic(auto, using(crate::proofs::Views::none_there), unfolding(model::specs::Lookups::table_empty, table::specs::Layout::windows_in))]
 pub fn dst_table_empty(table: &[u8]) -> bool
     ensures { result ≡ table_empty (lists_in table.now) }
 {
     window_count(table) == 0
 }
 
-// The window with index i, listed.
-fn window_there(table: &[u8], i: usize) -> DSTOffsetListed
-    requires { (i < 16) × (table_size ≤ length table.now) }
-    ensures { result ≡ window_listed (some (window_shown (window_at table.now (window_place i)))) }
+// The window at an index.
+#[tactic(auto, unfolding(crate::specs::Shown::window_listed_in))]
+pub fn dst_offset_at(table: &[u8], i: usize) -> Option<DSTOffsetEntry>
+    ensures { result ≡ window_listed_in table.now i }
 {
+    if window_count(table) <= i {
+        return None;
+    }
     let at = window_place(i);
-    let window = DSTOffsetEntry {
+    Some(DSTOffsetEntry {
         offset: i32_at(table, at),
         valid_starting: u64_at(table, at + START),
         valid_until: window_end(table, i),
-    };
-    DSTOffsetListed {
-        there: true,
-        window,
-    }
-}
-
-// No window is listed.
-fn no_window() -> DSTOffsetListed
-    ensures { result ≡ window_listed none }
-{
-    let window = DSTOffsetEntry {
-        offset: 0,
-        valid_starting: 0,
-        valid_until: MaybeU64::Nothing,
-    };
-    DSTOffsetListed {
-        there: false,
-        window,
-    }
-}
-
-// The window at an index.
-pub fn dst_offset_at(table: &[u8], i: usize) -> DSTOffsetListed
-    ensures { result ≡ window_listed_in table.now i }
-{
-    if i < window_count(table) {
-        return window_there(table, i);
-    }
-    no_window()
+    })
 }

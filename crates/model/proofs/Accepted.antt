@@ -1,7 +1,7 @@
 -- What acceptance gives: a list no longer than its limit, and of each entry what its rule demands. The lists after any calls have it.
+use Rattle.std.specs.Prelude.{Option, None, Some}
 use mathlib.Core.Bool.{Bool, true, false, beq}
 use mathlib.Core.List.{List, [], ◌∷◌, ◌++◌}
-use mathlib.Core.Option.{Option, none, some}
 use mathlib.Core.Path.{◌≡◌, refl, ap}
 use Prim.Native.Nat.{ℕ, suc, ◌+◌, ◌*◌, ◌-◌, ◌≤◌}
 use native.Mathlib.Omega.{arith}
@@ -34,7 +34,7 @@ module _ {A : Type 0} (limit : ℕ) (rule : ℕ → Option A → A → Verdict) 
   pub record Entry (index : ℕ) (before : Option A) (x : A) (xs : List A) : Type 0 where
     pub room : index ≡ limit → ⊥
     pub meets : rule index before x ≡ accepted
-    pub rest : test_from limit rule (suc index) (some x) xs ≡ accepted
+    pub rest : test_from limit rule (suc index) (Some x) xs ≡ accepted
 
   pub entry : (index : ℕ) (before : Option A) (x : A) (xs : List A) → test_from limit rule index before (x ∷ xs) ≡ accepted → Entry index before x xs
   unfolding test_from
@@ -48,7 +48,7 @@ module _ {A : Type 0} (limit : ℕ) (rule : ℕ → Option A → A → Verdict) 
   accepted_fits index before (x ∷ xs) i h =
       let d = entry index before x xs h in
       let r = d.room in
-      let ih = accepted_fits (suc index) (some x) xs (omega arith) d.rest in
+      let ih = accepted_fits (suc index) (Some x) xs (omega arith) d.rest in
       omega arith
 
 -- ## What the rules demand of an entry
@@ -95,12 +95,12 @@ not_bad : (v : Verdict) → as_bad_record v ≡ accepted → v ≡ accepted
 not_bad accepted h = refl
 not_bad (turned_down cause) h = cc
 
-pub record_accepted : (r : Rules) (l : Lists) → record_verdict r (some l) ≡ accepted → Accepted r l
+pub record_accepted : (r : Rules) (l : Lists) → record_verdict r (Some l) ≡ accepted → Accepted r l
 record_accepted r l h =
     let b = both_accept (test_zones r l.zones) (test_windows r l.windows) (not_bad _ h) in
     record { zones = b.0; windows = b.1 }
 
-pub accepted_record : (r : Rules) (l : Lists) → Accepted r l → record_verdict r (some l) ≡ accepted
+pub accepted_record : (r : Rules) (l : Lists) → Accepted r l → record_verdict r (Some l) ≡ accepted
 unfolding and_then
 accepted_record r l k = rw (k.zones, k.windows)
 
@@ -117,21 +117,21 @@ module _ (r : Rules) where
   kept_empty = record { zones = no_zones; windows = no_windows }
 
   kept_zones : (l : Lists) (o : Option (List Zone)) → Accepted r l → Accepted r (zones_set r l o)
-  kept_zones l none k = k
-  kept_zones l (some zs) k = either (Accepted r) (test_zones r zs) _ l (λ h. record { zones = h; windows = no_windows }) k
+  kept_zones l None k = k
+  kept_zones l (Some zs) k = either (Accepted r) (test_zones r zs) _ l (λ h. record { zones = h; windows = no_windows }) k
 
   kept_windows : (l : Lists) (o : Option (List Window)) → Accepted r l → Accepted r (windows_set r l o)
-  kept_windows l none k = k
-  kept_windows l (some ws) k =
+  kept_windows l None k = k
+  kept_windows l (Some ws) k =
       record { zones = k.zones; windows = either (λ x. test_windows r x ≡ accepted) (test_windows r ws) ws [] (λ h. h) no_windows }
 
   kept_record : (l : Lists) (o : Option Lists) → Accepted r l → Accepted r (record_loaded r l o)
-  kept_record l none k = k
-  kept_record l (some new) k = either (Accepted r) (record_verdict r (some new)) new l (record_accepted r new) k
+  kept_record l None k = k
+  kept_record l (Some new) k = either (Accepted r) (record_verdict r (Some new)) new l (record_accepted r new) k
 
   kept_loaded : (l : Lists) (o : Option (List ℕ)) → Accepted r l → Accepted r (loaded r l o)
-  kept_loaded l none k = k
-  kept_loaded l (some bytes) k = kept_record l (read_record bytes) k
+  kept_loaded l None k = k
+  kept_loaded l (Some bytes) k = kept_record l (read_record bytes) k
 
   pub kept_after : (l : Lists) (c : Call) → Accepted r l → Accepted r (after r l c)
   unfolding after
@@ -150,21 +150,21 @@ beq_true : (b : Bool) → beq true b ≡ true → b ≡ true
 beq_true true h = refl
 beq_true false h = h
 
-first_at_zero : (z : Zone) → zone_rule 0 none z ≡ accepted → z.start ≡ 0
-first_at_zero z h = eqb-true z.start 0 (beq_true (eqb z.start 0) (zone_meets 0 none z h).zero_first)
+first_at_zero : (z : Zone) → zone_rule 0 None z ≡ accepted → z.start ≡ 0
+first_at_zero z h = eqb-true z.start 0 (beq_true (eqb z.start 0) (zone_meets 0 None z h).zero_first)
 
 zones_first : (r : Rules) (zs : List Zone) → test_zones r zs ≡ accepted → FirstAtZero zs
 unfolding test_zones
 zones_first r [] h = tt
-zones_first r (z ∷ zs) h = first_at_zero z (entry r.zone_limit zone_rule 0 none z zs h).meets
+zones_first r (z ∷ zs) h = first_at_zero z (entry r.zone_limit zone_rule 0 None z zs h).meets
 
 pub zones_fit : (r : Rules) (zs : List Zone) → test_zones r zs ≡ accepted → length zs ≤ r.zone_limit
 unfolding test_zones
-zones_fit r zs h = let k = accepted_fits r.zone_limit zone_rule 0 none zs (omega arith) h in omega arith
+zones_fit r zs h = let k = accepted_fits r.zone_limit zone_rule 0 None zs (omega arith) h in omega arith
 
 pub windows_fit : (r : Rules) (ws : List Window) → test_windows r ws ≡ accepted → length ws ≤ r.window_limit
 unfolding test_windows
-windows_fit r ws h = let k = accepted_fits r.window_limit window_rule 0 none ws (omega arith) h in omega arith
+windows_fit r ws h = let k = accepted_fits r.window_limit window_rule 0 None ws (omega arith) h in omega arith
 
 -- ## How many boundaries that leaves
 
@@ -174,8 +174,8 @@ length-zone_starts [] = refl
 length-zone_starts (z ∷ zs) = ap suc (length-zone_starts zs)
 
 with_end : (u : Option ℕ) (bs : List ℕ) (n : ℕ) → length bs ≤ 2 * n → suc (length (end_then u bs)) ≤ 2 * suc n
-with_end none bs n h = omega arith
-with_end (some e) bs n h = omega arith
+with_end None bs n h = omega arith
+with_end (Some e) bs n h = omega arith
 
 length-window_bounds : (ws : List Window) → length (window_bounds ws) ≤ 2 * length ws
 unfolding window_bounds

@@ -1,6 +1,6 @@
 -- What a clock reads after a setting and after a load, and what stays stored.
+use Rattle.std.specs.Prelude.{Option, None, Some}
 use mathlib.Core.Bool.{true}
-use mathlib.Core.Option.{Option, none, some}
 use mathlib.Core.Path.{◌≡◌, refl, ap, ◌∙◌}
 use Prim.Native.Nat.{ℕ, ◌≤◌}
 use native.Mathlib.Omega.{arith}
@@ -34,7 +34,7 @@ module _ (c : Clock) (utc : ℕ) (g : TimeGranularity) (s : TimeSource) (tick : 
       (λ e. rw e (record { utc = refl; granularity = refl; from = refl; anchor = refl; reported = refl }))
 
 command_is_set : (d : Device) (utc number : ℕ) (g : TimeGranularity) (source : Option ℕ) (tick : ℕ)
-    → granularity_of number ≡ some g → source_readable source ≡ true
+    → granularity_of number ≡ Some g → source_readable source ≡ true
     → IsSet utc g Admin tick (set_utc_time_command d utc number source tick).state.clock (set_utc_time_command d utc number source tick).effects
 unfolding set_utc_time_command set_utc_time
 command_is_set d utc number g source tick e f =
@@ -77,13 +77,13 @@ setting_keeps_source c utc g s tick =
     (k, by_test (a_day_apart c utc) (λ e. rw e k) (λ e. rw e k))
 
 equal_sources : (s t : Option TrustedSource) → same_source s t ≡ true → s ≡ t
-equal_sources none none e = refl
-equal_sources none (some t) e = cc
-equal_sources (some s) none e = cc
-equal_sources (some s) (some t) e =
+equal_sources None None e = refl
+equal_sources None (Some t) e = cc
+equal_sources (Some s) None e = cc
+equal_sources (Some s) (Some t) e =
     let p = and_both (eqb s.fabric t.fabric) _ e in
     let q = and_both (eqb s.node t.node) _ p.1 in
-    ap some
+    ap Some
     (ap (λ (x : ℕ). record { fabric = x; node = s.node; endpoint = s.endpoint }) (eqb-true _ _ p.0)
     ∙ (ap (λ (x : ℕ). record { fabric = t.fabric; node = x; endpoint = s.endpoint }) (eqb-true _ _ q.0)
     ∙ ap (λ (x : ℕ). record { fabric = t.fabric; node = t.node; endpoint = x }) (eqb-true _ _ q.1)))
@@ -102,8 +102,8 @@ source_change_keeps_rest c source = (only_source c source, only_source c source)
 -- ## A load
 
 floor : (build : ℕ) (moment : Option ℕ) → build ≤ stored_utc build moment
-floor build none = omega arith
-floor build (some moment) = omega arith
+floor build None = omega arith
+floor build (Some moment) = omega arith
 
 pub never_below_build : NeverBelowBuild
 unfolding load reading

@@ -1,11 +1,11 @@
 -- The codes of effects are different, and a returned number gives back what it was made of.
+use Rattle.std.specs.Prelude.{Some, slice_get}
 use mathlib.Core.List.{List, [], ◌∷◌, map}
-use mathlib.Core.Option.{some}
 use mathlib.Core.Path.{◌≡◌, refl, ap, ◌∙◌}
 use Prim.Native.Nat.{ℕ, zero, suc, ◌+◌, ◌*◌, ◌/◌, ◌%◌, ◌≤◌, ◌<◌}
 use native.Mathlib.Omega.{arith}
 use lib.Dec.{lit<}
-use lib.ListN.{length, get_or, get_elem?}
+use lib.ListN.{length, get_or}
 use Rattle.model.specs.declared.Refusal.TheVariants as R
 use Rattle.model.specs.Numbers.{refusal_of}
 use Rattle.model.specs.Bytes.{bytes, number}
@@ -20,7 +20,7 @@ use Rattle.model.proofs.Words.{number_below}
 
 -- a code names its kind, and is a byte that is not 0
 record Tells (e : Effect) : Type 0 where
-  named : kind_named (effect_code e) ≡ some (kind_of e)
+  named : kind_named (effect_code e) ≡ Some (kind_of e)
   fits : effect_code e < 256
   not0 : 0 < effect_code e
 
@@ -98,7 +98,7 @@ codes_long : (es : List Effect) → length (map effect_code es) ≡ length es
 codes_long [] = refl
 codes_long (e ∷ es) = ap suc (codes_long es)
 
-kinds_back : (es : List Effect) (i : ℕ) → kind_named (get_or (map effect_code es) i 0) ≡ get_elem? (map kind_of es) i
+kinds_back : (es : List Effect) (i : ℕ) → kind_named (get_or (map effect_code es) i 0) ≡ slice_get (map kind_of es) i
 unfolding with_code
 kinds_back [] i = refl
 kinds_back (e ∷ es) zero = (tells e).named
@@ -118,7 +118,7 @@ module _ {A : Type 0} (a : Answer A) (es : List Effect) (few : length es ≤ 7) 
       let e : (number_of a + 256 * number (map effect_code es)) % 256 ≡ number_of a = omega arith in
       ap refusal_of e ∙ named_back a
 
-  kind_back : (i : ℕ) → kind_named (code_in (returned (number_of a) es) i) ≡ get_elem? (map kind_of es) i
+  kind_back : (i : ℕ) → kind_named (code_in (returned (number_of a) es) i) ≡ slice_get (map kind_of es) i
   unfolding returned
   kind_back i = ap kind_named (byte_back 8 (number_of a ∷ map effect_code es) all long (suc i)) ∙ kinds_back es i
 

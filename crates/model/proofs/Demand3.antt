@@ -1,7 +1,7 @@
 -- Demand 3 over the definitions: any calls, any limits, any starting moment.
+use Rattle.std.specs.Prelude.{Option, None, Some}
 use mathlib.Core.Bool.{Bool, true, false, cond}
 use mathlib.Core.List.{List, [], ◌∷◌}
-use mathlib.Core.Option.{Option, none, some}
 use mathlib.Core.Path.{◌≡◌, refl, sym, ap, ◌∙◌}
 use Prim.Native.Nat.{ℕ, ◌≤◌}
 use native.Mathlib.Omega.{arith}
@@ -27,7 +27,7 @@ record Follows (s : Store) (c : Call) (t : Store) : Type 0 where
   lists : t.lists ≡ after s.rules s.lists c
 
 module _ (s : Store) where
-  zones_tested_lem : (bytes : List ℕ) (zs : List Zone) → read_zones bytes ≡ some zs → (v : Verdict) → test_zones s.rules zs ≡ v
+  zones_tested_lem : (bytes : List ℕ) (zs : List Zone) → read_zones bytes ≡ Some zs → (v : Verdict) → test_zones s.rules zs ≡ v
       → Follows s (SetTimeZone bytes) (time_zone_set s bytes v).state
   unfolding after
   zones_tested_lem bytes zs e accepted h = record { rules = refl; lists = refl }
@@ -36,8 +36,8 @@ module _ (s : Store) where
   zones_read : (bytes : List ℕ) (o : Option (List Zone)) → read_zones bytes ≡ o
       → Follows s (SetTimeZone bytes) (time_zone_set s bytes (zones_verdict s.rules o)).state
   unfolding after
-  zones_read bytes none e = record { rules = refl; lists = rw e }
-  zones_read bytes (some zs) e = zones_tested_lem bytes zs e (test_zones s.rules zs) refl
+  zones_read bytes None e = record { rules = refl; lists = rw e }
+  zones_read bytes (Some zs) e = zones_tested_lem bytes zs e (test_zones s.rules zs) refl
 
   windows_tested_lem : (bytes : List ℕ) (v : Verdict) → Follows s (SetDSTOffset bytes) (windows_tested s bytes v).state
   windows_tested_lem bytes accepted = record { rules = refl; lists = refl }
@@ -45,25 +45,25 @@ module _ (s : Store) where
 
   windows_read_lem : (bytes : List ℕ) (o : Option (List Window)) → read_windows bytes ≡ o → Follows s (SetDSTOffset bytes) (windows_read s bytes o).state
   unfolding after
-  windows_read_lem bytes none e = record { rules = refl; lists = rw e }
-  windows_read_lem bytes (some ws) e = windows_tested_lem bytes (test_windows s.rules ws)
+  windows_read_lem bytes None e = record { rules = refl; lists = rw e }
+  windows_read_lem bytes (Some ws) e = windows_tested_lem bytes (test_windows s.rules ws)
 
-  record_tested_lem : (bytes : List ℕ) (l : Lists) → read_record bytes ≡ some l → (v : Verdict) → record_verdict s.rules (some l) ≡ v
-      → Follows s (Load (some bytes)) (store_loaded s (some bytes) v).state
+  record_tested_lem : (bytes : List ℕ) (l : Lists) → read_record bytes ≡ Some l → (v : Verdict) → record_verdict s.rules (Some l) ≡ v
+      → Follows s (Load (Some bytes)) (store_loaded s (Some bytes) v).state
   unfolding after
   record_tested_lem bytes l e accepted h = record { rules = refl; lists = refl }
   record_tested_lem bytes l e (turned_down cause) h = record { rules = refl; lists = rw (e, h) }
 
   record_read_lem : (bytes : List ℕ) (o : Option Lists) → read_record bytes ≡ o
-      → Follows s (Load (some bytes)) (store_loaded s (some bytes) (record_verdict s.rules o)).state
+      → Follows s (Load (Some bytes)) (store_loaded s (Some bytes) (record_verdict s.rules o)).state
   unfolding after
-  record_read_lem bytes none e = record { rules = refl; lists = rw e }
-  record_read_lem bytes (some l) e = record_tested_lem bytes l e (record_verdict s.rules (some l)) refl
+  record_read_lem bytes None e = record { rules = refl; lists = rw e }
+  record_read_lem bytes (Some l) e = record_tested_lem bytes l e (record_verdict s.rules (Some l)) refl
 
   loads : (stored : Option (List ℕ)) → Follows s (Load stored) (store_loaded s stored (load_verdict s.rules stored)).state
   unfolding after
-  loads none = record { rules = refl; lists = refl }
-  loads (some bytes) = record_read_lem bytes (read_record bytes) refl
+  loads None = record { rules = refl; lists = refl }
+  loads (Some bytes) = record_read_lem bytes (read_record bytes) refl
 
   follows : (c : Call) → Follows s c (store_after s c)
   unfolding store_after set_time_zone set_dst_offset load factory_reset verdict

@@ -1,7 +1,7 @@
 -- No call asks for more than four effects.
+use Rattle.std.specs.Prelude.{Option, None, Some, is_some}
 use mathlib.Core.Bool.{Bool, true, false, not, ◌&&◌, cond}
 use mathlib.Core.List.{List, [], ◌∷◌, ◌++◌}
-use mathlib.Core.Option.{Option, none, some}
 use Prim.Native.Nat.{ℕ, zero, suc, ◌≤◌}
 use native.Mathlib.Omega.{arith}
 use lib.Dec.{lit≤}
@@ -9,7 +9,7 @@ use lib.ListN.{length, length-append}
 use Rattle.model.specs.declared.TimeGranularity.{TimeGranularity}
 use Rattle.model.specs.declared.TimeSource.{TimeSource}
 use Rattle.model.specs.declared.TimeSource.TheVariants.{Admin, NodeTimeCluster}
-use Rattle.model.specs.Basics.{is_some, when}
+use Rattle.model.specs.Basics.{when}
 use Rattle.model.specs.Numbers.{granularity_of}
 use Rattle.model.specs.Lists.{Window, Lists}
 use Rattle.model.specs.Answers.{report, emit, wake_timer, wake_client, TrustedTimeSource, MissingTrustedTimeSource, TimeFailure, TrustedSource, store_moment, DSTStatus, DSTTableEmpty, TimeZoneStatus}
@@ -65,9 +65,9 @@ unfolding H.set_utc_time_command
 utc_few d utc granularity source tick = go (granularity_of granularity) (source_readable source)
   where
     go : (g : Option TimeGranularity) (readable : Bool) → length (utc_time_asked d utc g readable tick).effects ≤ 4
-    go none readable = lit≤ tt
-    go (some g) false = lit≤ tt
-    go (some g) true =
+    go None readable = lit≤ tt
+    go (Some g) false = lit≤ tt
+    go (Some g) true =
         omega (
           arith,
           length-append (set_utc_time d.clock utc g Admin tick).effects (when (is_some d.store) wake_timer),
@@ -91,8 +91,8 @@ zones_few d request = go d.store
     said s (turned_down cause) = lit≤ tt
 
     go : (o : Option Store) → length (H.command d o (λ s. T.set_time_zone s request)).effects ≤ 4
-    go none = lit≤ tt
-    go (some s) = said s (verdict s.rules (SetTimeZone request))
+    go None = lit≤ tt
+    go (Some s) = said s (verdict s.rules (SetTimeZone request))
 
 windows_few : (d : Device) (request : List ℕ) → length (H.set_dst_offset d request).effects ≤ 4
 unfolding H.set_dst_offset T.set_dst_offset
@@ -103,12 +103,12 @@ windows_few d request = go d.store
     said s (turned_down cause) = lit≤ tt
 
     found : (s : Store) (o : Option (List Window)) → length (T.windows_read s request o).effects ≤ 4
-    found s none = lit≤ tt
-    found s (some ws) = said s (test_windows s.rules ws)
+    found s None = lit≤ tt
+    found s (Some ws) = said s (test_windows s.rules ws)
 
     go : (o : Option Store) → length (H.command d o (λ s. T.set_dst_offset s request)).effects ≤ 4
-    go none = lit≤ tt
-    go (some s) = found s (read_windows request)
+    go None = lit≤ tt
+    go (Some s) = found s (read_windows request)
 
 load_few : (d : Device) (stored : Option (List ℕ)) → length (H.load_lists d stored).effects ≤ 4
 unfolding H.load_lists T.load
@@ -119,16 +119,16 @@ load_few d stored = go d.store
     said s (turned_down cause) = lit≤ tt
 
     go : (o : Option Store) → length (H.lifecycle d o (λ s. T.load s stored)).effects ≤ 4
-    go none = lit≤ tt
-    go (some s) = said s (verdict s.rules (Load stored))
+    go None = lit≤ tt
+    go (Some s) = said s (verdict s.rules (Load stored))
 
 reset_few : (d : Device) → length (H.reset_lists d).effects ≤ 4
 unfolding H.reset_lists T.factory_reset
 reset_few d = go d.store
   where
     go : (o : Option Store) → length (H.lifecycle d o (λ s. T.factory_reset s)).effects ≤ 4
-    go none = lit≤ tt
-    go (some s) = lit≤ tt
+    go None = lit≤ tt
+    go (Some s) = lit≤ tt
 
 clock_load_few : (build : ℕ) (d : Device) (moment : Option ℕ) (source : Option TrustedSource) → length (H.load_clock build d moment source).effects ≤ 4
 unfolding H.load_clock C.load
@@ -142,9 +142,9 @@ clock_reset_few build d = lit≤ tt
 
 look_few : (timer : Timer) (lists : Option Lists) (reading : Reading) → length (look timer lists reading).events ≤ 4
 unfolding look events_at
-look_few timer none reading = lit≤ tt
-look_few timer (some l) (last_known now) = lit≤ tt
-look_few timer (some l) (reliable now) =
+look_few timer None reading = lit≤ tt
+look_few timer (Some l) (last_known now) = lit≤ tt
+look_few timer (Some l) (reliable now) =
     let zone = TimeZoneStatus (active_zone l now).offset (active_zone l now).name in
     let active = DSTStatus (is_some (active_offset l now)) in
     let seen = seen_at l now in

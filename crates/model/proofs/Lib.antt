@@ -14,7 +14,6 @@ pub mod ReadBack
 pub mod Stored
 pub mod Table
 pub mod Range
-pub mod Maybe
 pub mod Panel
 pub mod Looks
 pub mod ClockLaws

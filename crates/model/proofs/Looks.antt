@@ -1,7 +1,7 @@
 -- What holds of the timer's looks.
+use Rattle.std.specs.Prelude.{Option, None, Some, is_some}
 use mathlib.Core.Bool.{Bool, true, false, not, ◌&&◌, beq, cond}
 use mathlib.Core.List.{List, [], ◌∷◌, ◌++◌}
-use mathlib.Core.Option.{Option, none, some}
 use mathlib.Core.Path.{◌≡◌, refl, sym, ap, ◌∙◌}
 use Prim.Native.Nat.{ℕ, suc, ◌+◌, ◌-◌, ◌≤◌, ◌<◌}
 use native.Mathlib.Nat.{le_refl}
@@ -10,7 +10,7 @@ use borrow.Author.Tests.{leb-true, leb-false, le-leb}
 use lib.Dec.{leb}
 use lib.IntN.{ℤ, pos, negsuc}
 use lib.Signed.{le_z}
-use Rattle.model.specs.Basics.{is_some, when, All, smallest, held_at_top}
+use Rattle.model.specs.Basics.{when, All, smallest, held_at_top}
 use Rattle.model.specs.Lists.{Name, Lists}
 use Rattle.model.specs.Answers.{Event, DSTTableEmpty, DSTStatus, TimeZoneStatus}
 use Rattle.model.specs.Lookups.{active_zone, active_offset, boundaries, later, next_transition}
@@ -26,7 +26,7 @@ le_itself : (z : ℤ) → le_z z z ≡ true
 le_itself (pos n) = le-leb n n (le_refl n)
 le_itself (negsuc n) = le-leb n n (le_refl n)
 
-no_zone : (s : Seen) → zone_due (some s) s ≡ false
+no_zone : (s : Seen) → zone_due (Some s) s ≡ false
 no_zone s = rw (le_itself s.offset)
 
 no_change : (b : Bool) → not (beq b b) ≡ false
@@ -37,7 +37,7 @@ no_fall : (b : Bool) → b && not b ≡ false
 no_fall true = refl
 no_fall false = refl
 
-no_events : (l : Lists) (now : ℕ) → events_at l now (some (seen_at l now)) ≡ []
+no_events : (l : Lists) (now : ℕ) → events_at l now (Some (seen_at l now)) ≡ []
 unfolding events_at
 no_events l now =
     let s = seen_at l now in
@@ -45,9 +45,9 @@ no_events l now =
 
 pub silent_again : SilentAgain
 unfolding look
-silent_again timer none reading = refl
-silent_again timer (some l) (last_known moment) = refl
-silent_again timer (some l) (reliable now) = rw (no_events l now)
+silent_again timer None reading = refl
+silent_again timer (Some l) (last_known moment) = refl
+silent_again timer (Some l) (reliable now) = rw (no_events l now)
 
 -- ## DSTTableEmpty, once for each fall
 
@@ -82,23 +82,23 @@ counted false n = omega arith
 -- a look counts the step from what the timer last saw to what it sees
 first_fall : (timer : Timer) (new : Seen) (bs : List Bool) → cond (empty_due timer new) 1 0 + falls (new.usable ∷ bs) ≡ falls (last_usable timer (new.usable ∷ bs))
 unfolding falls
-first_fall none new bs = counted false (falls (new.usable ∷ bs))
-first_fall (some old) new bs = counted (old.usable && not new.usable) (falls (new.usable ∷ bs))
+first_fall None new bs = counted false (falls (new.usable ∷ bs))
+first_fall (Some old) new bs = counted (old.usable && not new.usable) (falls (new.usable ∷ bs))
 
 -- the step of a run, by the instant's reading
 one_more : (timer : Timer) (l : Lists) (r : Reading) (is : List Instant) → ((t : Timer) → empties (events_over t is) ≡ falls (last_usable t (usables is)))
-    → empties ((look timer (some l) r).events ++ events_over (look timer (some l) r).timer is) ≡ falls (last_usable timer (usable_then l r (usables is)))
+    → empties ((look timer (Some l) r).events ++ events_over (look timer (Some l) r).timer is) ≡ falls (last_usable timer (usable_then l r (usables is)))
 unfolding look
 one_more timer l (last_known moment) is ih = ih timer
 one_more timer l (reliable now) is ih =
-    let after = ih (some (seen_at l now)) in
-    empties-++ (events_at l now timer) (events_over (some (seen_at l now)) is)
+    let after = ih (Some (seen_at l now)) in
+    empties-++ (events_at l now timer) (events_over (Some (seen_at l now)) is)
     ∙ rw (one_look timer l now, after) (first_fall timer (seen_at l now) (usables is))
 
 pub once_for_each_fall : OnceForEachFall
 unfolding events_over usables empties falls
-once_for_each_fall none [] = refl
-once_for_each_fall (some seen) [] = refl
+once_for_each_fall None [] = refl
+once_for_each_fall (Some seen) [] = refl
 once_for_each_fall timer (i ∷ is) = one_more timer i.lists i.reading is (λ t. once_for_each_fall t is)
 
 -- ## Sleeps
@@ -112,7 +112,7 @@ sleeps_where_next timer l now next e m =
 asked : (timer : Timer) (l : Lists) (now next s : ℕ) → SleepsFor timer l now next s → held_at_top (next - now + 100000) ≡ s
 unfolding look
 asked timer l now next s f =
-    let e : sleep_until (some next) now ≡ at_most s = ap (λ (o : Option ℕ). sleep_until o now) (sym f.transition) ∙ f.sleep in
+    let e : sleep_until (Some next) now ≡ at_most s = ap (λ (o : Option ℕ). sleep_until o now) (sym f.transition) ∙ f.sleep in
     cc
 
 pub ends_past : EndsPast
@@ -121,7 +121,7 @@ ends_past timer l now next s f =
     let m = f.moment in
     omega arith
 
-after_now : (l : Lists) (now next : ℕ) → next_transition l now ≡ some next → now < next
+after_now : (l : Lists) (now next : ℕ) → next_transition l now ≡ Some next → now < next
 unfolding next_transition
 after_now l now next e = (first_after now next (boundaries l) e).after
 
@@ -133,9 +133,9 @@ ends_margin_past timer l now next s f held =
 
 -- where the end lies at `next` or past it and before the transition after it, no boundary lies between
 alike : (t next : ℕ) (o : Option ℕ) (bs : List ℕ) → smallest (later next bs) ≡ o → next ≤ t → t ≤ next + 100000 → FarFrom next o → All (SameSide t next) bs
-alike t next none bs e p q far =
+alike t next None bs e p q far =
     All-map (λ b h. past_both t next b (omega arith) h) bs (none_after next bs e)
-alike t next (some m) bs e p q far =
+alike t next (Some m) bs e p q far =
     All-map
     (λ b h. by_test (leb b next)
     (λ y. let k = leb-true b next y in past_both t next b (omega arith) k)

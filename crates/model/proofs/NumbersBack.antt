@@ -1,5 +1,5 @@
 -- A number names what has it.
-use mathlib.Core.Option.{some}
+use Rattle.std.specs.Prelude.{Some}
 use mathlib.Core.Path.{◌≡◌, refl}
 use Rattle.model.specs.declared.TimeGranularity.{TimeGranularity}
 use Rattle.model.specs.declared.TimeGranularity.TheVariants as G
@@ -10,7 +10,7 @@ use Rattle.model.specs.declared.Refusal.TheVariants as R
 use Rattle.model.specs.Numbers.{granularity_number, granularity_of, source_number, source_of, refusal_number, refusal_of}
 use Rattle.model.specs.Claims.{NumbersBack}
 
-granularity : (x : TimeGranularity) → granularity_of (granularity_number x) ≡ some x
+granularity : (x : TimeGranularity) → granularity_of (granularity_number x) ≡ Some x
 unfolding granularity_of
 granularity G.NoTime = refl
 granularity G.Minutes = refl
@@ -18,7 +18,7 @@ granularity G.Seconds = refl
 granularity G.Milliseconds = refl
 granularity G.Microseconds = refl
 
-source : (x : TimeSource) → source_of (source_number x) ≡ some x
+source : (x : TimeSource) → source_of (source_number x) ≡ Some x
 unfolding source_of
 source S.None = refl
 source S.Unknown = refl
@@ -38,7 +38,7 @@ source S.CloudSource = refl
 source S.PTP = refl
 source S.GNSS = refl
 
-refusal : (x : Refusal) → refusal_of (refusal_number x) ≡ some x
+refusal : (x : Refusal) → refusal_of (refusal_number x) ≡ Some x
 unfolding refusal_of
 refusal R.Unreadable = refl
 refusal R.ConstraintError = refl

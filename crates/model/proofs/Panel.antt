@@ -1,7 +1,7 @@
 -- What a panel shows, and when it is null.
+use Rattle.std.specs.Prelude.{Option, None, Some}
 use mathlib.Core.Bool.{Bool, true, false, cond, ◌&&◌}
 use mathlib.Core.List.{List, [], ◌∷◌}
-use mathlib.Core.Option.{Option, none, some}
 use mathlib.Core.Path.{◌≡◌, refl, sym, ap, ◌∙◌}
 use Prim.Native.Nat.{ℕ, suc}
 use native.Mathlib.Omega.{arith}
@@ -17,16 +17,16 @@ use Rattle.model.specs.Panel.{NothingToShow, NullExactly, BetweenWindows, RunOut
 use Rattle.model.proofs.Facts.{by_test}
 
 -- a choice between a value and none, by its test
-none_only : (b : Bool) (m : ℕ) → ◌≡◌ {A = Answer (Option ℕ)} (answers (cond b (some m) none)) (answers none) → b ≡ false
+none_only : (b : Bool) (m : ℕ) → ◌≡◌ {A = Answer (Option ℕ)} (answers (cond b (Some m) None)) (answers None) → b ≡ false
 none_only true m e = cc
 none_only false m e = refl
 
-only : (r : Reading) (l : Lists) → local_time r (some l) ≡ answers none → NothingToShow r l
+only : (r : Reading) (l : Lists) → local_time r (Some l) ≡ answers None → NothingToShow r l
 unfolding local_time
 only (last_known utc) l e = tt
 only (reliable utc) l e = none_only (usable l utc) (shown l utc) e
 
-always : (r : Reading) (l : Lists) → NothingToShow r l → local_time r (some l) ≡ answers none
+always : (r : Reading) (l : Lists) → NothingToShow r l → local_time r (Some l) ≡ answers None
 unfolding local_time
 always (last_known utc) l e = refl
 always (reliable utc) l e = rw e refl
@@ -35,7 +35,7 @@ pub null_exactly : NullExactly
 null_exactly = record { only_then = only; always_then = always }
 
 -- where a window is usable, what is shown
-shows : (l : Lists) (utc : ℕ) → usable l utc ≡ true → local_time (reliable utc) (some l) ≡ answers (some (shown l utc))
+shows : (l : Lists) (utc : ℕ) → usable l utc ≡ true → local_time (reliable utc) (Some l) ≡ answers (Some (shown l utc))
 unfolding local_time
 shows l utc e = rw e refl
 
@@ -50,14 +50,14 @@ add_0 (pos n) = ap pos (omega arith)
 add_0 (negsuc n) = rw (lt-ltb 0 (suc n) (omega arith)) (ap negsuc (omega arith))
 
 -- where no window is active, there is no last one
-no_last : (l : Lists) (utc : ℕ) → active_windows l utc ≡ [] → last_active_window l utc ≡ none
+no_last : (l : Lists) (utc : ℕ) → active_windows l utc ≡ [] → last_active_window l utc ≡ None
 unfolding last_active_window last
 no_last l utc e = rw e refl
 
 pub between_windows : BetweenWindows
 between_windows l utc u e =
     shows l utc u
-    ∙ ap (λ (m : ℕ). answers (some m)) (shown_with l utc none (no_last l utc e)
+    ∙ ap (λ (m : ℕ). answers (Some m)) (shown_with l utc None (no_last l utc e)
     ∙ ap (λ (z : ℤ). held (pos utc +ℤ z *ℤ pos 1000000)) (add_0 (active_zone l utc).offset))
 
 and_false : (a : Bool) → a && false ≡ false
@@ -81,10 +81,10 @@ pub run_out : RunOut
 run_out l utc u = (no_active l utc u, always (reliable utc) l u)
 
 -- an active window is usable
-usable_in : (l : Lists) (utc : ℕ) (w : Window) → last_active_window l utc ≡ some w → usable l utc ≡ true
+usable_in : (l : Lists) (utc : ℕ) (w : Window) → last_active_window l utc ≡ Some w → usable l utc ≡ true
 usable_in l utc w e =
     by_test (usable l utc) (λ t. t)
-    (λ t. let z : ◌≡◌ {A = Option Window} none (some w) = sym (no_last l utc (no_active l utc t)) ∙ e in cc)
+    (λ t. let z : ◌≡◌ {A = Option Window} None (Some w) = sym (no_last l utc (no_active l utc t)) ∙ e in cc)
 
 pub inside_a_window : InsideAWindow
-inside_a_window l utc w e = shows l utc (usable_in l utc w e) ∙ ap (λ (m : ℕ). answers (some m)) (shown_with l utc (some w) e)
+inside_a_window l utc w e = shows l utc (usable_in l utc w e) ∙ ap (λ (m : ℕ). answers (Some m)) (shown_with l utc (Some w) e)

@@ -1,7 +1,7 @@
 -- Bytes that are readable are the writing of what they read as, whose numbers fit their types.
+use Rattle.std.specs.Prelude.{Option, None, Some}
 use mathlib.Core.Bool.{Bool, true, false}
 use mathlib.Core.List.{List, [], ◌∷◌, ◌++◌, append_assoc, append-nil}
-use mathlib.Core.Option.{Option, none, some}
 use mathlib.Core.Path.{◌≡◌, refl, sym, ap, subst, ◌∙◌}
 use Prim.Native.Nat.{ℕ, zero, suc, ◌^◌, ◌<◌}
 use native.Mathlib.Omega.{arith}
@@ -17,7 +17,7 @@ use Rattle.model.specs.RoundTrip.{AreBytes, IsOffset, IsMoment, IsName, IsUntil,
 use Rattle.model.proofs.Facts.{by_test, All-left, All-right}
 use Rattle.model.proofs.Words.{number_below, bytes_number, bits_signed, signed_fits}
 
-no : {A : Type 0} {C : Type 0} (a : A) → ◌≡◌ {A = Option A} none (some a) → C
+no : {A : Type 0} {C : Type 0} (a : A) → ◌≡◌ {A = Option A} None (Some a) → C
 no a h = let z : ◌≡◌ {A = ℕ} 0 1 = cc in absurd (omega arith)
 
 -- ## One reader after another
@@ -25,17 +25,17 @@ no a h = let z : ◌≡◌ {A = ℕ} 0 1 = cc in absurd (omega arith)
 record Taken {A B : Type 0} (f : Front A) (go : A → List ℕ → Front B) (x : B × List ℕ) : Type 0 where
   took : A
   left : List ℕ
-  is : f ≡ some (took, left)
-  on : go took left ≡ some x
+  is : f ≡ Some (took, left)
+  on : go took left ≡ Some x
 
-taken : {A B : Type 0} (f : Front A) (go : A → List ℕ → Front B) (x : B × List ℕ) → then f go ≡ some x → Taken f go x
-taken none go x h = no x h
-taken (some p) go x h = record { took = p.0; left = p.1; is = refl; on = h }
+taken : {A B : Type 0} (f : Front A) (go : A → List ℕ → Front B) (x : B × List ℕ) → then f go ≡ Some x → Taken f go x
+taken None go x h = no x h
+taken (Some p) go x h = record { took = p.0; left = p.1; is = refl; on = h }
 
-pair_left : {A B : Type 0} (a a' : A) (b b' : B) → ◌≡◌ {A = Option (A × B)} (some (a, b)) (some (a', b')) → a ≡ a'
+pair_left : {A B : Type 0} (a a' : A) (b b' : B) → ◌≡◌ {A = Option (A × B)} (Some (a, b)) (Some (a', b')) → a ≡ a'
 pair_left {A} {B} a a' b b' h = let q : ◌≡◌ {A = A × B} (a, b) (a', b') = cc in ap (λ p. p.0) q
 
-pair_right : {A B : Type 0} (a a' : A) (b b' : B) → ◌≡◌ {A = Option (A × B)} (some (a, b)) (some (a', b')) → b ≡ b'
+pair_right : {A B : Type 0} (a a' : A) (b b' : B) → ◌≡◌ {A = Option (A × B)} (Some (a, b)) (Some (a', b')) → b ≡ b'
 pair_right {A} {B} a a' b b' h = let q : ◌≡◌ {A = A × B} (a, b) (a', b') = cc in ap (λ p. p.1) q
 
 -- bytes `x` were taken off `s`, and `t` is left
@@ -49,19 +49,19 @@ off s x t b e =
     let c : AreBytes (x ++ t) = subst AreBytes e b in
     record { is = e; taken_bytes = All-left (λ n. n < 256) x t c; left_bytes = All-right (λ n. n < 256) x t c }
 
-bytes_off : (n : ℕ) (s x t : List ℕ) → AreBytes s → take_bytes n s ≡ some (x, t) → Off s x t × (length x ≡ n)
+bytes_off : (n : ℕ) (s x t : List ℕ) → AreBytes s → take_bytes n s ≡ Some (x, t) → Off s x t × (length x ≡ n)
 unfolding take_bytes
 bytes_off n s x t b h =
     by_test (leb n (length s))
-    (λ e. let k : ◌≡◌ {A = Front (List ℕ)} (some (take n s, drop n s)) (some (x, t)) = rw e at h in
+    (λ e. let k : ◌≡◌ {A = Front (List ℕ)} (Some (take n s, drop n s)) (Some (x, t)) = rw e at h in
     let p = pair_left (take n s) x (drop n s) t k in
     let q = pair_right (take n s) x (drop n s) t k in (
       off s x t b (sym (take-append-drop n s) ∙ ap (λ (l : List ℕ). l ++ drop n s) p ∙ ap (λ (l : List ℕ). x ++ l) q),
       ap length (sym p) ∙ length-take-le n s (leb-true n (length s) e),
     ))
-    (λ e. let k : ◌≡◌ {A = Front (List ℕ)} none (some (x, t)) = rw e at h in no (x, t) k)
+    (λ e. let k : ◌≡◌ {A = Front (List ℕ)} None (Some (x, t)) = rw e at h in no (x, t) k)
 
-byte_off : (s : List ℕ) (m : ℕ) (t : List ℕ) → AreBytes s → byte s ≡ some (m, t) → Off s (m ∷ []) t
+byte_off : (s : List ℕ) (m : ℕ) (t : List ℕ) → AreBytes s → byte s ≡ Some (m, t) → Off s (m ∷ []) t
 byte_off [] m t b h = no (m, t) h
 byte_off (x ∷ s) m t b h =
     off (x ∷ s) (m ∷ []) t b
@@ -81,7 +81,7 @@ three : (s a s₁ b s₂ c s₃ t x y : List ℕ) → s ≡ a ++ s₁ → s₁ �
 three s a s₁ b s₂ c s₃ t x y p q r e f g = rw (p, q, r, e, f, g) (simp append_assoc)
 
 module _ {A B : Type 0} (tail : ℕ → List ℕ → Front A) (make : ℤ → ℕ → A → B) (tail_bytes : A → List ℕ) (TailFits : A → Type 0)
-    (tail_off : (m : ℕ) (s : List ℕ) (a : A) (t : List ℕ) → AreBytes s → m < 256 → tail m s ≡ some (a, t)
+    (tail_off : (m : ℕ) (s : List ℕ) (a : A) (t : List ℕ) → AreBytes s → m < 256 → tail m s ≡ Some (a, t)
     → (m ∷ s ≡ tail_bytes a ++ t) × (TailFits a × AreBytes t)) where
   record Entry (s : List ℕ) (x : B) (t : List ℕ) : Type 0 where
     offset : ℤ
@@ -94,7 +94,7 @@ module _ {A B : Type 0} (tail : ℕ → List ℕ → Front A) (make : ℤ → �
     rest_fits : TailFits rest
     left_bytes : AreBytes t
 
-  entry_off : (s : List ℕ) (x : B) (t : List ℕ) → AreBytes s → read_entry tail make s ≡ some (x, t) → Entry s x t
+  entry_off : (s : List ℕ) (x : B) (t : List ℕ) → AreBytes s → read_entry tail make s ≡ Some (x, t) → Entry s x t
   unfolding read_entry
   entry_off s x t b h =
       let a = taken (take_bytes 4 s) _ (x, t) h in
@@ -124,18 +124,18 @@ module _ {A B : Type 0} (tail : ℕ → List ℕ → Front A) (make : ℤ → �
 
 -- ## Names and ends
 
-named_off : (w : Bool) (n : Name) (s : List ℕ) (a : Option Name) (t : List ℕ) → well_formed n ≡ w → named w n s ≡ some (a, t)
-    → (a ≡ some n) × ((s ≡ t) × (well_formed n ≡ true))
+named_off : (w : Bool) (n : Name) (s : List ℕ) (a : Option Name) (t : List ℕ) → well_formed n ≡ w → named w n s ≡ Some (a, t)
+    → (a ≡ Some n) × ((s ≡ t) × (well_formed n ≡ true))
 unfolding named
-named_off true n s a t e h = (sym (pair_left (some n) a s t h), (pair_right (some n) a s t h, e))
+named_off true n s a t e h = (sym (pair_left (Some n) a s t h), (pair_right (Some n) a s t h, e))
 named_off false n s a t e h = no (a, t) h
 
-name_off : (m : ℕ) (s : List ℕ) (a : Option Name) (t : List ℕ) → AreBytes s → m < 256 → read_name m s ≡ some (a, t)
+name_off : (m : ℕ) (s : List ℕ) (a : Option Name) (t : List ℕ) → AreBytes s → m < 256 → read_name m s ≡ Some (a, t)
     → (m ∷ s ≡ name_bytes a ++ t) × (IsName a × AreBytes t)
 unfolding read_name
 name_off zero s a t b l h =
-    let p = pair_left none a s t h in
-    let q = pair_right none a s t h in
+    let p = pair_left None a s t h in
+    let q = pair_right None a s t h in
     (ap (λ (x : List ℕ). 0 ∷ x) q ∙ ap (λ (x : Option Name). name_bytes x ++ t) p, (subst IsName p tt, subst AreBytes q b))
 name_off (suc zero) s a t b l h =
     let c = taken (byte s) _ (a, t) h in
@@ -153,18 +153,18 @@ name_off (suc zero) s a t b l h =
     )
 name_off (suc (suc m)) s a t b l h = no (a, t) h
 
-until_off : (m : ℕ) (s : List ℕ) (a : Option ℕ) (t : List ℕ) → AreBytes s → m < 256 → read_until m s ≡ some (a, t)
+until_off : (m : ℕ) (s : List ℕ) (a : Option ℕ) (t : List ℕ) → AreBytes s → m < 256 → read_until m s ≡ Some (a, t)
     → (m ∷ s ≡ until_bytes a ++ t) × (IsUntil a × AreBytes t)
 unfolding read_until
 until_off zero s a t b l h =
-    let p = pair_left none a s t h in
-    let q = pair_right none a s t h in
+    let p = pair_left None a s t h in
+    let q = pair_right None a s t h in
     (ap (λ (x : List ℕ). 0 ∷ x) q ∙ ap (λ (x : Option ℕ). until_bytes x ++ t) p, (subst IsUntil p tt, subst AreBytes q b))
 until_off (suc zero) s a t b l h =
     let c = taken (take_bytes 8 s) _ (a, t) h in
     let oc = bytes_off 8 s c.took c.left b c.is in
-    let p = pair_left (some (number c.took)) a c.left t c.on in
-    let q = pair_right (some (number c.took)) a c.left t c.on in
+    let p = pair_left (Some (number c.took)) a c.left t c.on in
+    let q = pair_right (Some (number c.took)) a c.left t c.on in
     let n8 : number c.took < 256 ^ 8 = number_below 8 c.took (omega (arith, oc.1)) oc.0.taken_bytes in
     let b8 = spelt 8 c.took oc.1 oc.0.taken_bytes in (
       ap (λ (x : List ℕ). 1 ∷ x)
@@ -182,7 +182,7 @@ record One {A : Type 0} (entry_bytes : A → List ℕ) (Fits : A → Type 0) (s 
   fits : Fits x
   left_bytes : AreBytes t
 
-zone_off : (s : List ℕ) (z : Zone) (t : List ℕ) → AreBytes s → read_zone s ≡ some (z, t) → One zone_bytes ZoneFits s z t
+zone_off : (s : List ℕ) (z : Zone) (t : List ℕ) → AreBytes s → read_zone s ≡ Some (z, t) → One zone_bytes ZoneFits s z t
 zone_off s z t b h =
     let e = entry_off read_name make_zone name_bytes IsName name_off s z t b h in
     record {
@@ -191,7 +191,7 @@ zone_off s z t b h =
       left_bytes = e.left_bytes;
     }
 
-window_off : (s : List ℕ) (w : Window) (t : List ℕ) → AreBytes s → read_window s ≡ some (w, t) → One window_bytes WindowFits s w t
+window_off : (s : List ℕ) (w : Window) (t : List ℕ) → AreBytes s → read_window s ≡ Some (w, t) → One window_bytes WindowFits s w t
 window_off s w t b h =
     let e = entry_off read_until make_window until_bytes IsUntil until_off s w t b h in
     record {
@@ -203,14 +203,14 @@ window_off s w t b h =
 -- ## Sections, over any entries
 
 module _ {A : Type 0} (entry_bytes : A → List ℕ) (read_one : List ℕ → Front A) (Fits : A → Type 0)
-    (one_off : (s : List ℕ) (x : A) (t : List ℕ) → AreBytes s → read_one s ≡ some (x, t) → One entry_bytes Fits s x t) where
+    (one_off : (s : List ℕ) (x : A) (t : List ℕ) → AreBytes s → read_one s ≡ Some (x, t) → One entry_bytes Fits s x t) where
   record Many (s : List ℕ) (n : ℕ) (xs : List A) (t : List ℕ) : Type 0 where
     written : s ≡ all_bytes entry_bytes xs ++ t
     counted : length xs ≡ n
     fits : All Fits xs
     left_bytes : AreBytes t
 
-  all_off : (n : ℕ) (s : List ℕ) (xs : List A) (t : List ℕ) → AreBytes s → read_all read_one n s ≡ some (xs, t) → Many s n xs t
+  all_off : (n : ℕ) (s : List ℕ) (xs : List A) (t : List ℕ) → AreBytes s → read_all read_one n s ≡ Some (xs, t) → Many s n xs t
   unfolding all_bytes read_all
   all_off zero s xs t b h =
       let p = pair_left [] xs s t h in
@@ -245,7 +245,7 @@ module _ {A : Type 0} (entry_bytes : A → List ℕ) (read_one : List ℕ → Fr
     few : length xs < 256
     left_bytes : AreBytes t
 
-  section_off : (s : List ℕ) (xs : List A) (t : List ℕ) → AreBytes s → read_section read_one s ≡ some (xs, t) → Section s xs t
+  section_off : (s : List ℕ) (xs : List A) (t : List ℕ) → AreBytes s → read_section read_one s ≡ Some (xs, t) → Section s xs t
   section_off s xs t b h =
       let a = taken (byte s) _ (xs, t) h in
       let o = byte_off s a.took a.left b a.is in
@@ -260,18 +260,18 @@ module _ {A : Type 0} (entry_bytes : A → List ℕ) (read_one : List ℕ → Fr
 
 -- ## Nothing is left over
 
-whole_left : {A : Type 0} (a x : A) (s : List ℕ) → nothing_left a s ≡ some x → ◌≡◌ {A = Front A} (some (a, s)) (some (x, []))
-whole_left a x [] h = let q : a ≡ x = cc in ap (λ y. some (y, [])) q
+whole_left : {A : Type 0} (a x : A) (s : List ℕ) → nothing_left a s ≡ Some x → ◌≡◌ {A = Front A} (Some (a, s)) (Some (x, []))
+whole_left a x [] h = let q : a ≡ x = cc in ap (λ y. Some (y, [])) q
 whole_left a x (b ∷ s) h = no x h
 
-whole_is : {A : Type 0} (f : Front A) (x : A) → whole f ≡ some x → f ≡ some (x, [])
-whole_is none x h = no x h
-whole_is (some p) x h = whole_left p.0 x p.1 h
+whole_is : {A : Type 0} (f : Front A) (x : A) → whole f ≡ Some x → f ≡ Some (x, [])
+whole_is None x h = no x h
+whole_is (Some p) x h = whole_left p.0 x p.1 h
 
-zone_section : (s : List ℕ) (zs : List Zone) (t : List ℕ) → AreBytes s → read_section read_zone s ≡ some (zs, t) → Section zone_bytes read_zone ZoneFits zone_off s zs t
+zone_section : (s : List ℕ) (zs : List Zone) (t : List ℕ) → AreBytes s → read_section read_zone s ≡ Some (zs, t) → Section zone_bytes read_zone ZoneFits zone_off s zs t
 zone_section s zs t b h = section_off zone_bytes read_zone ZoneFits zone_off s zs t b h
 
-window_section : (s : List ℕ) (ws : List Window) (t : List ℕ) → AreBytes s → read_section read_window s ≡ some (ws, t) → Section window_bytes read_window WindowFits window_off s ws t
+window_section : (s : List ℕ) (ws : List Window) (t : List ℕ) → AreBytes s → read_section read_window s ≡ Some (ws, t) → Section window_bytes read_window WindowFits window_off s ws t
 window_section s ws t b h = section_off window_bytes read_window WindowFits window_off s ws t b h
 
 pub zones_written : ZonesWritten
@@ -287,14 +287,14 @@ windows_written s ws b h =
     (c.written ∙ append-nil (section_bytes window_bytes ws), record { each = c.fits; few = c.few })
 
 abbrev second : List Zone → List ℕ → Front Lists
-second zs s = then (read_section read_window s) (λ ws s₂. some (record { zones = zs; windows = ws }, s₂))
+second zs s = then (read_section read_window s) (λ ws s₂. Some (record { zones = zs; windows = ws }, s₂))
 
 pub record_written : RecordWritten
 unfolding read_record record_bytes zones_bytes windows_bytes
 record_written s l b h =
     let a = taken (read_section read_zone s) second (l, []) (whole_is (read_sections s) l h) in
     let z = zone_section s a.took a.left b a.is in
-    let c = taken (read_section read_window a.left) (λ ws s₂. some (record { zones = a.took; windows = ws }, s₂)) (l, []) a.on in
+    let c = taken (read_section read_window a.left) (λ ws s₂. Some (record { zones = a.took; windows = ws }, s₂)) (l, []) a.on in
     let w = window_section a.left c.took c.left z.left_bytes c.is in
     let made : Lists = record { zones = a.took; windows = c.took } in
     let p : made ≡ l = pair_left made l c.left [] c.on in

@@ -1,7 +1,7 @@
 -- The retry after failures in a row, what starts the retries over, and the distance of events of one kind.
+use Rattle.std.specs.Prelude.{Option, None, Some, is_some}
 use mathlib.Core.Bool.{Bool, true, false, ◌&&◌, cond}
 use mathlib.Core.List.{List, [], ◌∷◌, ◌++◌, map, append-nil}
-use mathlib.Core.Option.{Option, none, some}
 use mathlib.Core.Path.{◌≡◌, refl, ap, ◌∙◌}
 use Prim.Native.Nat.{ℕ, ◌+◌, ◌*◌, ◌^◌, ◌≤◌, min}
 use native.Mathlib.Nat.{pow-suc, mul_assoc, mul_comm, mul-le-mul_left}
@@ -10,7 +10,7 @@ use borrow.Author.Tests.{leb-true, leb-false}
 use lib.Dec.{leb}
 use lib.ListN.{length}
 use lib.Pow.{pow_pos}
-use Rattle.model.specs.Basics.{is_some, keep, when, All, run}
+use Rattle.model.specs.Basics.{keep, when, All, run}
 use Rattle.model.specs.Answers.{Effect}
 use Rattle.model.specs.Clock.{Clock, set_utc_time, set_utc_time_persist}
 use Rattle.model.specs.Retries.{Client, Refresh, Applied, NoTime, NoSource, Failure, refresh, first_retry, due, marked, source_missing, time_missing, events_of, doubled, Step, clock_effects, attempt_of, wait_for, source_changed, RETRY_MIN, TIME_EVENTS_INTERVAL}
@@ -140,16 +140,16 @@ attempt_emits time_failure c k r tick = simp (keep_append, clock_silent, keep_wh
 
 -- a mark, as a list
 abbrev marks : Option ℕ → List ℕ
-marks none = []
-marks (some mark) = mark ∷ []
+marks None = []
+marks (Some mark) = mark ∷ []
 
 -- what an attempt emits stands apart from the mark before it, where the mark after it stands apart from all that comes later
 step_apart : (want : Bool) (mark : Option ℕ) (tick : ℕ) (later : List ℕ)
     → Apart TIME_EVENTS_INTERVAL (marks (mark_after want mark tick) ++ later)
     → Apart TIME_EVENTS_INTERVAL (marks mark ++ (when (want && due mark tick) tick ++ later))
 step_apart false mark tick later h = h
-step_apart true none tick later h = h
-step_apart true (some mark) tick later h =
+step_apart true None tick later h = h
+step_apart true (Some mark) tick later h =
     by_test (leb (mark + TIME_EVENTS_INTERVAL) tick)
     (λ e. let after = leb-true (mark + TIME_EVENTS_INTERVAL) tick e in
     let rest = rw e at h in
@@ -157,12 +157,12 @@ step_apart true (some mark) tick later h =
     (λ e. let rest = rw e at h in rw e rest)
 
 alone : (mark : Option ℕ) → Apart TIME_EVENTS_INTERVAL (marks mark ++ [])
-alone none = tt
-alone (some mark) = (tt, tt)
+alone None = tt
+alone (Some mark) = (tt, tt)
 
 after_mark : (mark : Option ℕ) (later : List ℕ) → Apart TIME_EVENTS_INTERVAL (marks mark ++ later) → Apart TIME_EVENTS_INTERVAL later
-after_mark none later h = h
-after_mark (some mark) later h = h.1
+after_mark None later h = h
+after_mark (Some mark) later h = h.1
 
 -- a mark and the events after it are apart
 from_mark : (kind : Kind) (c : Client) (is : List Input) → Apart TIME_EVENTS_INTERVAL (marks (mark_of kind c) ++ emissions kind c is)

@@ -1,7 +1,7 @@
 -- The record of accepted lists reads back, is taken and is short enough; and so is the record that a store holds after any calls.
+use Rattle.std.specs.Prelude.{Option, None, Some}
 use mathlib.Core.Bool.{true}
 use mathlib.Core.List.{List, [], ◌∷◌, ◌++◌}
-use mathlib.Core.Option.{Option, none, some}
 use mathlib.Core.Path.{◌≡◌, refl, ap, ◌∙◌}
 use Prim.Native.Nat.{ℕ, suc, ◌*◌, ◌≤◌}
 use native.Mathlib.Omega.{arith}
@@ -25,12 +25,12 @@ use Rattle.model.proofs.WriteBack.{record_back}
 -- ## The length
 
 name_short : (n : Option Name) → name_fits n ≡ true → length (name_bytes n) ≤ 66
-name_short none h = lit< tt
-name_short (some n) h = let k = leb-true (length n) 64 h in omega arith
+name_short None h = lit< tt
+name_short (Some n) h = let k = leb-true (length n) 64 h in omega arith
 
 until_short : (u : Option ℕ) → length (until_bytes u) ≤ 9
-until_short none = lit< tt
-until_short (some e) = omega (arith, length_bytes 8 e)
+until_short None = lit< tt
+until_short (Some e) = omega (arith, length_bytes 8 e)
 
 zone_short : (z : Zone) → name_fits z.name ≡ true → length (zone_bytes z) ≤ 78
 zone_short z h =
@@ -60,7 +60,7 @@ unfolding all_bytes
 zones_short_lem limit index before [] h = lit≤ tt
 zones_short_lem limit index before (z ∷ zs) h =
     let e = entry limit zone_rule index before z zs h in
-    omega (arith, length-append (zone_bytes z) (all_bytes zone_bytes zs), zone_short z (zone_meets index before z e.meets).name_fits_lem, zones_short_lem limit (suc index) (some z) zs e.rest)
+    omega (arith, length-append (zone_bytes z) (all_bytes zone_bytes zs), zone_short z (zone_meets index before z e.meets).name_fits_lem, zones_short_lem limit (suc index) (Some z) zs e.rest)
 
 windows_short_lem : (ws : List Window) → length (all_bytes window_bytes ws) ≤ 21 * length ws
 unfolding all_bytes
@@ -73,7 +73,7 @@ short r l z w k =
     omega (
       arith,
       length-append (length l.zones ∷ all_bytes zone_bytes l.zones) (length l.windows ∷ all_bytes window_bytes l.windows),
-      zones_short_lem r.zone_limit 0 none l.zones k.zones,
+      zones_short_lem r.zone_limit 0 None l.zones k.zones,
       windows_short_lem l.windows,
       zones_fit r l.zones k.zones,
       windows_fit r l.windows k.windows,
@@ -81,12 +81,12 @@ short r l z w k =
 
 -- ## The record is taken
 
-module _ (r : Rules) (l : Lists) (k : Accepted r l) (e : read_record (record_bytes l) ≡ some l) where
-  taken : verdict r (Load (some (record_bytes l))) ≡ accepted
+module _ (r : Rules) (l : Lists) (k : Accepted r l) (e : read_record (record_bytes l) ≡ Some l) where
+  taken : verdict r (Load (Some (record_bytes l))) ≡ accepted
   unfolding verdict
   taken = ap (record_verdict r) e ∙ accepted_record r l k
 
-  again : (old : Lists) → after r old (Load (some (record_bytes l))) ≡ l
+  again : (old : Lists) → after r old (Load (Some (record_bytes l))) ≡ l
   unfolding after
   again old = ap (record_loaded r old) e ∙ ap (λ (v : Verdict). if_accepted v l old) (accepted_record r l k)
 
@@ -122,26 +122,26 @@ fit_empty = record { zones = no_zones_fit; windows = no_windows_fit }
 
 module _ (r : Rules) where
   fit_zones : (l : Lists) (b : List ℕ) (o : Option (List Zone)) → read_zones b ≡ o → AreBytes b → ListsFit l → ListsFit (zones_set r l o)
-  fit_zones l b none e h f = f
-  fit_zones l b (some zs) e h f =
+  fit_zones l b None e h f = f
+  fit_zones l b (Some zs) e h f =
       either ListsFit (test_zones r zs) (record { zones = zs; windows = [] }) l
       (λ v. record { zones = (zones_written b zs h e).1; windows = no_windows_fit }) f
 
   fit_windows : (l : Lists) (b : List ℕ) (o : Option (List Window)) → read_windows b ≡ o → AreBytes b → ListsFit l → ListsFit (windows_set r l o)
-  fit_windows l b none e h f = f
-  fit_windows l b (some ws) e h f =
+  fit_windows l b None e h f = f
+  fit_windows l b (Some ws) e h f =
       record { zones = f.zones; windows = either WindowsFit (test_windows r ws) ws [] (λ v. (windows_written b ws h e).1) no_windows_fit }
 
   fit_record : (l : Lists) (b : List ℕ) (o : Option Lists) → read_record b ≡ o → AreBytes b → ListsFit l → ListsFit (record_loaded r l o)
-  fit_record l b none e h f = f
-  fit_record l b (some new) e h f = either ListsFit (record_verdict r (some new)) new l (λ v. (record_written b new h e).1) f
+  fit_record l b None e h f = f
+  fit_record l b (Some new) e h f = either ListsFit (record_verdict r (Some new)) new l (λ v. (record_written b new h e).1) f
 
   fit_after : (l : Lists) (c : Call) → CallBytes c → ListsFit l → ListsFit (after r l c)
   unfolding after
   fit_after l (SetTimeZone b) h f = fit_zones l b (read_zones b) refl h f
   fit_after l (SetDSTOffset b) h f = fit_windows l b (read_windows b) refl h f
-  fit_after l (Load none) h f = f
-  fit_after l (Load (some b)) h f = fit_record l b (read_record b) refl h f
+  fit_after l (Load None) h f = f
+  fit_after l (Load (Some b)) h f = fit_record l b (read_record b) refl h f
   fit_after l FactoryReset h f = fit_empty
 
 -- accepted lists that fit

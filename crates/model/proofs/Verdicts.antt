@@ -1,6 +1,6 @@
 -- A store's call answers what the rules say of its argument.
+use Rattle.std.specs.Prelude.{Option, None, Some}
 use mathlib.Core.List.{List}
-use mathlib.Core.Option.{Option, none, some}
 use mathlib.Core.Path.{◌≡◌, refl}
 use Prim.Native.Nat.{ℕ}
 use Rattle.model.specs.Lists.{Window}
@@ -20,8 +20,8 @@ module _ (s : Store) where
   tested b (turned_down cause) = refl
 
   windows : (b : List ℕ) (o : Option (List Window)) → verdict_of (windows_read s b o).answer ≡ windows_verdict s.rules o
-  windows b none = refl
-  windows b (some ws) = tested b (test_windows s.rules ws)
+  windows b None = refl
+  windows b (Some ws) = tested b (test_windows s.rules ws)
 
   loads : (stored : Option (List ℕ)) (v : Verdict) → verdict_of (store_loaded s stored v).answer ≡ v
   loads stored accepted = refl

@@ -1,7 +1,7 @@
 -- On accepted windows at most one is active, so the first active one is the last.
+use Rattle.std.specs.Prelude.{Option, None, Some}
 use mathlib.Core.Bool.{Bool, true, false, not}
 use mathlib.Core.List.{List, [], ◌∷◌}
-use mathlib.Core.Option.{Option, none, some}
 use mathlib.Core.Path.{◌≡◌, refl}
 use Prim.Native.Nat.{ℕ, suc, ◌≤◌, ◌<◌}
 use native.Mathlib.Omega.{arith}
@@ -18,13 +18,13 @@ use Rattle.model.proofs.Accepted.{entry, window_meets}
 
 -- a window that starts at or after the end `u`, which is still to come, starts later
 starts_later : (now start : ℕ) (u : Option ℕ) → reached start u ≡ true → not_ended now u ≡ true → now < start
-starts_later now start none h n = let z : ◌≡◌ {A = Bool} false true = h in let q : ◌≡◌ {A = ℕ} 0 1 = cc in absurd (omega arith)
-starts_later now start (some e) h n = let a = leb-true e start h in let b = ltb-true now e n in omega arith
+starts_later now start None h n = let z : ◌≡◌ {A = Bool} false true = h in let q : ◌≡◌ {A = ℕ} 0 1 = cc in absurd (omega arith)
+starts_later now start (Some e) h n = let a = leb-true e start h in let b = ltb-true now e n in omega arith
 
 -- and has not ended
 not_ended_lem : (now start : ℕ) (u : Option ℕ) → now < start → not (reached start u) ≡ true → not_ended now u ≡ true
-not_ended_lem now start none h b = refl
-not_ended_lem now start (some e) h b = let a = leb-false e start (not-true _ b) in lt-ltb now e (omega arith)
+not_ended_lem now start None h b = refl
+not_ended_lem now start (Some e) h b = let a = leb-false e start (not-true _ b) in lt-ltb now e (omega arith)
 
 -- a list of at most one entry has one end
 one_end : {A : Type 0} (xs : List A) → length xs ≤ 1 → first xs ≡ last xs
@@ -35,13 +35,13 @@ one_end (x ∷ (y ∷ xs)) h = absurd (omega arith)
 
 module _ (limit now : ℕ) where
   -- after a window that has not ended none is active
-  none_after : (index : ℕ) (p : Window) (ws : List Window) → test_from limit window_rule index (some p) ws ≡ accepted → not_ended now p.until ≡ true
+  none_after : (index : ℕ) (p : Window) (ws : List Window) → test_from limit window_rule index (Some p) ws ≡ accepted → not_ended now p.until ≡ true
       → keep (is_active now) ws ≡ []
   unfolding keep
   none_after index p [] h n = refl
   none_after index p (w ∷ ws) h n =
-      let e = entry limit window_rule index (some p) w ws h in
-      let a = window_meets index (some p) w e.meets in
+      let e = entry limit window_rule index (Some p) w ws h in
+      let a = window_meets index (Some p) w e.meets in
       let lt = starts_later now w.start p.until a.not_below n in
       rw (lt-leb w.start now lt) (none_after (suc index) w ws e.rest (not_ended_lem now w.start w.until lt a.proper))
 
@@ -53,10 +53,10 @@ module _ (limit now : ℕ) where
       let e = entry limit window_rule index before w ws h in
       by_test (is_active now w)
       (λ t. rw (t, none_after (suc index) w ws e.rest (and_both (leb w.start now) _ t).1) (omega arith))
-      (λ f. rw f (one (suc index) (some w) ws e.rest))
+      (λ f. rw f (one (suc index) (Some w) ws e.rest))
 
 pub at_most_one : AtMostOneActive
 unfolding active_window last_active_window test_windows
 at_most_one r l now h =
-    let k = one r.window_limit now 0 none l.windows h in
+    let k = one r.window_limit now 0 None l.windows h in
     record { few = k; same = one_end (keep (is_active now) l.windows) k }

@@ -1,6 +1,6 @@
 -- What is written reads back.
+use Rattle.std.specs.Prelude.{Option, None, Some}
 use mathlib.Core.List.{List, [], ◌∷◌, ◌++◌, append_assoc, append-nil}
-use mathlib.Core.Option.{Option, none, some}
 use mathlib.Core.Path.{◌≡◌, refl, sym, ap, ◌∙◌}
 use Prim.Native.Nat.{ℕ, ◌≤◌}
 use native.Mathlib.Omega.{arith}
@@ -15,15 +15,15 @@ use Rattle.model.specs.RoundTrip.{IsOffset, IsMoment, IsName, IsUntil, ZoneFits,
 use Rattle.model.proofs.Words.{length_bytes, number_bytes, signed_bits, bits_below}
 
 -- so many bytes off the front
-front : (n : ℕ) (xs ys : List ℕ) → length xs ≡ n → take_bytes n (xs ++ ys) ≡ some (xs, ys)
+front : (n : ℕ) (xs ys : List ℕ) → length xs ≡ n → take_bytes n (xs ++ ys) ≡ Some (xs, ys)
 unfolding take_bytes
 front n xs ys e =
     let l : n ≤ length (xs ++ ys) = omega (arith, length-append xs ys) in
     rw (le-leb n (length (xs ++ ys)) l, take_at xs ys n e, drop_at xs ys n e)
 
 module _ {A B : Type 0} (tail : ℕ → List ℕ → Front A) (make : ℤ → ℕ → A → B) where
-  entry_back : (o : ℤ) (t mark : ℕ) (more rest : List ℕ) (a : A) → IsOffset o → IsMoment t → tail mark (more ++ rest) ≡ some (a, rest)
-      → read_entry tail make ((bytes 4 (bits_of o) ++ (bytes 8 t ++ (mark ∷ more))) ++ rest) ≡ some (make o t a, rest)
+  entry_back : (o : ℤ) (t mark : ℕ) (more rest : List ℕ) (a : A) → IsOffset o → IsMoment t → tail mark (more ++ rest) ≡ Some (a, rest)
+      → read_entry tail make ((bytes 4 (bits_of o) ++ (bytes 8 t ++ (mark ∷ more))) ++ rest) ≡ Some (make o t a, rest)
   unfolding read_entry
   entry_back o t mark more rest a ho ht h =
       rw (
@@ -38,44 +38,44 @@ module _ {A B : Type 0} (tail : ℕ → List ℕ → Front A) (make : ℤ → �
       )
 
 name_back : (o : ℤ) (t : ℕ) (n : Option Name) (rest : List ℕ) → IsOffset o → IsMoment t → IsName n
-    → read_zone ((bytes 4 (bits_of o) ++ (bytes 8 t ++ name_bytes n)) ++ rest) ≡ some (make_zone o t n, rest)
+    → read_zone ((bytes 4 (bits_of o) ++ (bytes 8 t ++ name_bytes n)) ++ rest) ≡ Some (make_zone o t n, rest)
 unfolding read_name named
-name_back o t none rest ho ht hn = entry_back read_name make_zone o t 0 [] rest none ho ht refl
-name_back o t (some n) rest ho ht hn =
-    entry_back read_name make_zone o t 1 (length n ∷ n) rest (some n) ho ht
+name_back o t None rest ho ht hn = entry_back read_name make_zone o t 0 [] rest None ho ht refl
+name_back o t (Some n) rest ho ht hn =
+    entry_back read_name make_zone o t 1 (length n ∷ n) rest (Some n) ho ht
     (rw (front (length n) n rest refl, hn.0))
 
 until_back : (o : ℤ) (t : ℕ) (u : Option ℕ) (rest : List ℕ) → IsOffset o → IsMoment t → IsUntil u
-    → read_window ((bytes 4 (bits_of o) ++ (bytes 8 t ++ until_bytes u)) ++ rest) ≡ some (make_window o t u, rest)
+    → read_window ((bytes 4 (bits_of o) ++ (bytes 8 t ++ until_bytes u)) ++ rest) ≡ Some (make_window o t u, rest)
 unfolding read_until
-until_back o t none rest ho ht hu = entry_back read_until make_window o t 0 [] rest none ho ht refl
-until_back o t (some e) rest ho ht hu =
-    entry_back read_until make_window o t 1 (bytes 8 e) rest (some e) ho ht
+until_back o t None rest ho ht hu = entry_back read_until make_window o t 0 [] rest None ho ht refl
+until_back o t (Some e) rest ho ht hu =
+    entry_back read_until make_window o t 1 (bytes 8 e) rest (Some e) ho ht
     (rw (front 8 (bytes 8 e) rest (length_bytes 8 e), number_bytes 8 e hu))
 
-zone_back : (z : Zone) (rest : List ℕ) → ZoneFits z → read_zone (zone_bytes z ++ rest) ≡ some (z, rest)
+zone_back : (z : Zone) (rest : List ℕ) → ZoneFits z → read_zone (zone_bytes z ++ rest) ≡ Some (z, rest)
 zone_back z rest f = name_back z.offset z.start z.name rest f.offset f.start f.name
 
-window_back : (w : Window) (rest : List ℕ) → WindowFits w → read_window (window_bytes w ++ rest) ≡ some (w, rest)
+window_back : (w : Window) (rest : List ℕ) → WindowFits w → read_window (window_bytes w ++ rest) ≡ Some (w, rest)
 window_back w rest f = until_back w.offset w.start w.until rest f.offset f.start f.until
 
 -- ## Sections, over any entries
 
 module _ {A : Type 0} (entry_bytes : A → List ℕ) (read_one : List ℕ → Front A) (Fits : A → Type 0)
-    (one_back : (x : A) (rest : List ℕ) → Fits x → read_one (entry_bytes x ++ rest) ≡ some (x, rest)) where
-  all_back : (xs : List A) (rest : List ℕ) → All Fits xs → read_all read_one (length xs) (all_bytes entry_bytes xs ++ rest) ≡ some (xs, rest)
+    (one_back : (x : A) (rest : List ℕ) → Fits x → read_one (entry_bytes x ++ rest) ≡ Some (x, rest)) where
+  all_back : (xs : List A) (rest : List ℕ) → All Fits xs → read_all read_one (length xs) (all_bytes entry_bytes xs ++ rest) ≡ Some (xs, rest)
   unfolding all_bytes read_all
   all_back [] rest f = refl
   all_back (x ∷ xs) rest f =
       rw (append_assoc (entry_bytes x) (all_bytes entry_bytes xs) rest, one_back x (all_bytes entry_bytes xs ++ rest) f.0, all_back xs rest f.1)
 
-  section_back : (xs : List A) (rest : List ℕ) → All Fits xs → read_section read_one (section_bytes entry_bytes xs ++ rest) ≡ some (xs, rest)
+  section_back : (xs : List A) (rest : List ℕ) → All Fits xs → read_section read_one (section_bytes entry_bytes xs ++ rest) ≡ Some (xs, rest)
   section_back xs rest f = all_back xs rest f
 
-zone_section : (zs : List Zone) (rest : List ℕ) → All ZoneFits zs → read_section read_zone (section_bytes zone_bytes zs ++ rest) ≡ some (zs, rest)
+zone_section : (zs : List Zone) (rest : List ℕ) → All ZoneFits zs → read_section read_zone (section_bytes zone_bytes zs ++ rest) ≡ Some (zs, rest)
 zone_section zs rest f = section_back zone_bytes read_zone ZoneFits zone_back zs rest f
 
-window_section : (ws : List Window) (rest : List ℕ) → All WindowFits ws → read_section read_window (section_bytes window_bytes ws ++ rest) ≡ some (ws, rest)
+window_section : (ws : List Window) (rest : List ℕ) → All WindowFits ws → read_section read_window (section_bytes window_bytes ws ++ rest) ≡ Some (ws, rest)
 window_section ws rest f = section_back window_bytes read_window WindowFits window_back ws rest f
 
 pub zones_back : ZonesBack
@@ -90,7 +90,7 @@ windows_back ws f =
 
 -- the record, from what the first and the second section read as
 abbrev both : List Zone → List Window → List ℕ → Front Lists
-both zs ws s = some (record { zones = zs; windows = ws }, s)
+both zs ws s = Some (record { zones = zs; windows = ws }, s)
 
 abbrev second : List Zone → Front (List Window) → Option Lists
 second zs o = whole (then o (λ ws s. both zs ws s))

@@ -1,6 +1,5 @@
 -- What a call answers, and what it asks the device to do, in order.
-use Rattle.std.specs.Prelude.{Bool, List, [], ℕ, ℤ}
-use Rattle.std.proofs.Math.Option.{Option}
+use Rattle.std.specs.Prelude.{Bool, List, [], ℕ, ℤ, Option}
 use Rattle.model.specs.declared.Refusal.{Refusal}
 use Rattle.model.specs.Numbers.{refusal_number}
 use Rattle.model.specs.Basics.{Moment}

@@ -1,6 +1,5 @@
 -- The bytes of the lists: what a section and a record are written as, and what bytes read as.
-use Rattle.std.specs.Prelude.{Bool, true, false, ◌&&◌, cond, List, [], ◌∷◌, ◌++◌, ℕ, zero, suc, ◌+◌, ◌-◌, ◌*◌, ◌/◌, ◌%◌, ◌^◌, leb, ltb, ℤ, pos, negsuc, length, take, drop}
-use Rattle.std.proofs.Math.Option.{Option, none, some}
+use Rattle.std.specs.Prelude.{Bool, true, false, ◌&&◌, cond, List, [], ◌∷◌, ◌++◌, ℕ, zero, suc, ◌+◌, ◌-◌, ◌*◌, ◌/◌, ◌%◌, ◌^◌, leb, ltb, ℤ, pos, negsuc, length, take, drop, Option, None, Some}
 use Rattle.model.specs.Lists.{Name, Zone, Window, Lists}
 
 -- ## Numbers: little endian, and two's complement for offsets
@@ -37,7 +36,7 @@ within (lo ·· hi) b = leb lo b && leb b hi
 
 -- a row: where the byte `a` is in the first range, the ranges of the bytes that follow it; else the rows below
 unfoldable pub row : ℕ → Range → List Range → Option (List Range) → Option (List Range)
-row a first rest below = cond (within first a) (some rest) below
+row a first rest below = cond (within first a) (Some rest) below
 
 -- the table: the ranges of the bytes that follow a first byte, or none where no character starts so
 abbrev pub table : ℕ → Option (List Range)
@@ -51,12 +50,12 @@ table a =
     (row a (0xF0 ·· 0xF0) (0x90 ·· 0xBF ∷ 0x80 ·· 0xBF ∷ 0x80 ·· 0xBF ∷ [])
     (row a (0xF1 ·· 0xF3) (0x80 ·· 0xBF ∷ 0x80 ·· 0xBF ∷ 0x80 ·· 0xBF ∷ [])
     (row a (0xF4 ·· 0xF4) (0x80 ·· 0x8F ∷ 0x80 ·· 0xBF ∷ 0x80 ·· 0xBF ∷ [])
-    none))))))))
+    None))))))))
 
 -- go on with the ranges that a first byte asks for; not well-formed where no character starts so
 abbrev pub follow : Option (List Range) → (List Range → Bool) → Bool
-follow none go = false
-follow (some rest) go = go rest
+follow None go = false
+follow (Some rest) go = go rest
 
 -- the bytes end a character of which bytes in these ranges are still due, and then are whole characters
 unfoldable pub goes_on : List ℕ → List Range → Bool
@@ -73,8 +72,8 @@ well_formed s = goes_on s []
 
 -- mark 0 for no name; mark 1, the length in one byte, and the name's bytes
 abbrev pub name_bytes : Option Name → List ℕ
-name_bytes none = 0 ∷ []
-name_bytes (some n) = 1 ∷ length n ∷ n
+name_bytes None = 0 ∷ []
+name_bytes (Some n) = 1 ∷ length n ∷ n
 
 -- a zone: offset in 4 bytes, start in 8, and the name
 abbrev pub zone_bytes : Zone → List ℕ
@@ -82,8 +81,8 @@ zone_bytes z = bytes 4 (bits_of z.offset) ++ (bytes 8 z.start ++ name_bytes z.na
 
 -- mark 0 for an open window; mark 1 and the end in 8 bytes
 abbrev pub until_bytes : Option ℕ → List ℕ
-until_bytes none = 0 ∷ []
-until_bytes (some e) = 1 ∷ bytes 8 e
+until_bytes None = 0 ∷ []
+until_bytes (Some e) = 1 ∷ bytes 8 e
 
 -- a window: offset in 4 bytes, start in 8, and the end
 abbrev pub window_bytes : Window → List ℕ
@@ -122,34 +121,34 @@ Front A = Option (A × List ℕ)
 module _ {A B : Type 0} where
   -- read on after what was taken off
   abbrev pub then : Front A → (A → List ℕ → Front B) → Front B
-  then none go = none
-  then (some f) go = go f.0 f.1
+  then None go = None
+  then (Some f) go = go f.0 f.1
 
 -- so many bytes; unreadable where one is missing
 unfoldable pub take_bytes : ℕ → List ℕ → Front (List ℕ)
-take_bytes n s = cond (leb n (length s)) (some (take n s, drop n s)) none
+take_bytes n s = cond (leb n (length s)) (Some (take n s, drop n s)) None
 
 -- one byte
 abbrev pub byte : List ℕ → Front ℕ
-byte [] = none
-byte (b ∷ s) = some (b, s)
+byte [] = None
+byte (b ∷ s) = Some (b, s)
 
 -- a name, where its bytes are well-formed UTF-8; else unreadable
 unfoldable pub named : Bool → Name → List ℕ → Front (Option Name)
-named true n s = some (some n, s)
-named false n s = none
+named true n s = Some (Some n, s)
+named false n s = None
 
 -- by its mark a name or none; a mark above 1 is unreadable
 unfoldable pub read_name : ℕ → List ℕ → Front (Option Name)
-read_name zero s = some (none, s)
+read_name zero s = Some (None, s)
 read_name (suc zero) s = then (byte s) (λ n s₁. then (take_bytes n s₁) (λ name s₂. named (well_formed name) name s₂))
-read_name (suc (suc mark)) s = none
+read_name (suc (suc mark)) s = None
 
 -- by its mark an end or none; a mark above 1 is unreadable
 unfoldable pub read_until : ℕ → List ℕ → Front (Option ℕ)
-read_until zero s = some (none, s)
-read_until (suc zero) s = then (take_bytes 8 s) (λ e s₁. some (some (number e), s₁))
-read_until (suc (suc mark)) s = none
+read_until zero s = Some (None, s)
+read_until (suc zero) s = then (take_bytes 8 s) (λ e s₁. Some (Some (number e), s₁))
+read_until (suc (suc mark)) s = None
 
 -- an entry: its offset, its start, its mark, and what follows by the mark
 module _ {A B : Type 0} (tail : ℕ → List ℕ → Front A) (make : ℤ → ℕ → A → B) where
@@ -158,7 +157,7 @@ module _ {A B : Type 0} (tail : ℕ → List ℕ → Front A) (make : ℤ → �
       then (take_bytes 4 s) (λ o s₁.
       then (take_bytes 8 s₁) (λ t s₂.
       then (byte s₂) (λ mark s₃.
-      then (tail mark s₃) (λ a s₄. some (make (signed (number o)) (number t) a, s₄)))))
+      then (tail mark s₃) (λ a s₄. Some (make (signed (number o)) (number t) a, s₄)))))
 
 abbrev pub make_zone : ℤ → ℕ → Option Name → Zone
 make_zone o t n = record { offset = o; start = t; name = n }
@@ -175,8 +174,8 @@ read_window s = read_entry read_until make_window s
 module _ {A : Type 0} (read_one : List ℕ → Front A) where
   -- so many entries
   unfoldable pub read_all : ℕ → List ℕ → Front (List A)
-  read_all zero s = some ([], s)
-  read_all (suc n) s = then (read_one s) (λ x s₁. then (read_all n s₁) (λ xs s₂. some (x ∷ xs, s₂)))
+  read_all zero s = Some ([], s)
+  read_all (suc n) s = then (read_one s) (λ x s₁. then (read_all n s₁) (λ xs s₂. Some (x ∷ xs, s₂)))
 
   -- a section: a count in one byte, and so many entries
   abbrev pub read_section : List ℕ → Front (List A)
@@ -185,13 +184,13 @@ module _ {A : Type 0} (read_one : List ℕ → Front A) where
 module _ {A : Type 0} where
   -- a byte left over is unreadable
   abbrev pub nothing_left : A → List ℕ → Option A
-  nothing_left a [] = some a
-  nothing_left a (b ∷ s) = none
+  nothing_left a [] = Some a
+  nothing_left a (b ∷ s) = None
 
   -- what was taken off, where nothing is left over
   abbrev pub whole : Front A → Option A
-  whole none = none
-  whole (some f) = nothing_left f.0 f.1
+  whole None = None
+  whole (Some f) = nothing_left f.0 f.1
 
 -- SetTimeZone's request: one section of zones
 unfoldable pub read_zones : List ℕ → Option (List Zone)
@@ -204,7 +203,7 @@ read_windows s = whole (read_section read_window s)
 -- the two sections of a record, and the bytes that are left
 abbrev pub read_sections : List ℕ → Front Lists
 read_sections s =
-    then (read_section read_zone s) (λ zs s₁. then (read_section read_window s₁) (λ ws s₂. some (record { zones = zs; windows = ws }, s₂)))
+    then (read_section read_zone s) (λ zs s₁. then (read_section read_window s₁) (λ ws s₂. Some (record { zones = zs; windows = ws }, s₂)))
 
 -- the stored record: both sections and nothing else
 unfoldable pub read_record : List ℕ → Option Lists

@@ -1,6 +1,5 @@
 -- What else holds of the definitions.
-use Rattle.std.proofs.Math.Option.{Option, some}
-use Rattle.std.specs.Prelude.{◌≡◌, ℕ, ◌≤◌, length}
+use Rattle.std.specs.Prelude.{◌≡◌, ℕ, ◌≤◌, length, Option, Some}
 use Rattle.model.specs.declared.TimeGranularity.{TimeGranularity}
 use Rattle.model.specs.declared.TimeSource.{TimeSource}
 use Rattle.model.specs.declared.Refusal.{Refusal}
@@ -18,9 +17,9 @@ use Rattle.model.specs.LocalTime.{local_time}
 -- ## A number names what has it: `numbers_back` in proofs/NumbersBack.antt
 
 pub record NumbersBack : Type 0 where
-  pub granularity : (g : TimeGranularity) → granularity_of (granularity_number g) ≡ some g
-  pub source : (s : TimeSource) → source_of (source_number s) ≡ some s
-  pub refusal : (r : Refusal) → refusal_of (refusal_number r) ≡ some r
+  pub granularity : (g : TimeGranularity) → granularity_of (granularity_number g) ≡ Some g
+  pub source : (s : TimeSource) → source_of (source_number s) ≡ Some s
+  pub refusal : (r : Refusal) → refusal_of (refusal_number r) ≡ Some r
 
 -- ## A store's call answers what the rules say of its argument: `answers_verdict` in proofs/Verdicts.antt
 
@@ -49,7 +48,7 @@ AtMostOneActive = (r : Rules) (l : Lists) (now : ℕ) → test_windows r l.windo
 -- ## A LocalTime that is shown lies in range: `local_in_range` in proofs/Range.antt
 
 abbrev pub LocalInRange : Type 0
-LocalInRange = (r : Reading) (lists : Option Lists) (t : ℕ) → local_time r lists ≡ answers (some t) → t ≤ top
+LocalInRange = (r : Reading) (lists : Option Lists) (t : ℕ) → local_time r lists ≡ answers (Some t) → t ≤ top
 
 -- ## A clock that is let run never reads less at a later tick: `never_back` in proofs/Range.antt
 

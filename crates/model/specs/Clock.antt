@@ -1,13 +1,12 @@
 -- The clock, `Rtc`. The firmware build moment and the tick are arguments.
-use Rattle.std.specs.Prelude.{Bool, true, false, not, ◌&&◌, ◌||◌, cond, List, [], ◌∷◌, ◌++◌, ℕ, ◌+◌, ◌-◌, max, leb, eqb}
-use Rattle.std.proofs.Math.Option.{Option, none, some}
+use Rattle.std.specs.Prelude.{Bool, true, false, not, ◌&&◌, ◌||◌, cond, List, [], ◌∷◌, ◌++◌, ℕ, ◌+◌, ◌-◌, max, leb, eqb, Option, None, Some, is_some}
 use Rattle.model.specs.declared.TimeGranularity.{TimeGranularity}
 use Rattle.model.specs.declared.TimeGranularity.TheVariants.{NoTime, Minutes, Seconds, Milliseconds, Microseconds}
 use Rattle.model.specs.declared.TimeSource.{TimeSource}
 use Rattle.model.specs.declared.TimeSource.TheVariants as S
 use Rattle.model.specs.declared.Refusal.TheVariants.{BadRecord}
 use Rattle.model.specs.Numbers.{granularity_number, source_number}
-use Rattle.model.specs.Basics.{Moment, Tick, held_at_top, is_some, when}
+use Rattle.model.specs.Basics.{Moment, Tick, held_at_top, when}
 use Rattle.model.specs.Answers.{answers, done, Attribute, UTCTime, Granularity, TrustedTimeSource, MissingTrustedTimeSource, TrustedSource, Effect, report, emit, store_moment, remove_moment, store_source, remove_source, Result, unchanged}
 
 pub record Clock : Type 0 where
@@ -25,7 +24,7 @@ pub record Clock : Type 0 where
 
 -- a fresh clock stands at the build moment and knows no time
 abbrev pub fresh : ℕ → Clock
-fresh build = record { utc = build; persisted = build; granularity = NoTime; source = S.None; anchor = none; trusted = none }
+fresh build = record { utc = build; persisted = build; granularity = NoTime; source = S.None; anchor = None; trusted = None }
 
 -- factory reset of the clock (`reset_persist`): a fresh clock, and what flash holds of it is removed
 unfoldable pub reset_persist : ℕ → Result Clock (Unit {0})
@@ -35,13 +34,13 @@ reset_persist build = record { state = fresh build; answer = done; effects = rem
 
 -- the UTC number after a load: never below the build moment
 abbrev pub stored_utc : ℕ → Option ℕ → ℕ
-stored_utc build none = build
-stored_utc build (some moment) = max moment build
+stored_utc build None = build
+stored_utc build (Some moment) = max moment build
 
 -- the persisted moment after a load: the stored one as it is
 abbrev pub stored_persisted : ℕ → Option ℕ → ℕ
-stored_persisted build none = build
-stored_persisted build (some moment) = moment
+stored_persisted build None = build
+stored_persisted build (Some moment) = moment
 
 -- a fresh clock with what flash held; nothing of the clock before is left
 abbrev pub loaded_clock : ℕ → Option ℕ → Option TrustedSource → Clock
@@ -51,14 +50,14 @@ loaded_clock build moment source =
       persisted = stored_persisted build moment;
       granularity = NoTime;
       source = S.None;
-      anchor = none;
+      anchor = None;
       trusted = source;
     }
 
 -- a stored source whose fabric index is 0
 abbrev pub no_fabric : Option TrustedSource → Bool
-no_fabric none = false
-no_fabric (some s) = eqb s.fabric 0
+no_fabric None = false
+no_fabric (Some s) = eqb s.fabric 0
 
 -- such a source is a bad record, found before anything is reset; a load reports, stores and wakes nothing
 unfoldable pub load : ℕ → Clock → Option ℕ → Option TrustedSource → Result Clock (Unit {0})
@@ -74,16 +73,16 @@ pub data Reading : Type 0 where
 
 -- with an anchor the UTC number and the ticks since, held at the top (`tick - at` is 0 for a tick before the anchor); with none the last known number
 abbrev pub reading_at : Option ℕ → ℕ → ℕ → Reading
-reading_at none utc tick = last_known utc
-reading_at (some at) utc tick = reliable (held_at_top (utc + (tick - at)))
+reading_at None utc tick = last_known utc
+reading_at (Some at) utc tick = reliable (held_at_top (utc + (tick - at)))
 
 unfoldable pub reading : Clock → ℕ → Reading
 reading c tick = reading_at c.anchor c.utc tick
 
 -- the moment of a reliable reading, else null
 abbrev pub reliable_moment : Reading → Option ℕ
-reliable_moment (reliable moment) = some moment
-reliable_moment (last_known moment) = none
+reliable_moment (reliable moment) = Some moment
+reliable_moment (last_known moment) = None
 
 -- `utc_time_granularity`: NoTime until the clock is set, whatever the record holds
 unfoldable pub granularity_read : Clock → TimeGranularity
@@ -118,7 +117,7 @@ set_to c utc g s tick =
       persisted = c.persisted;
       granularity = lowered g;
       source = s;
-      anchor = some tick;
+      anchor = Some tick;
       trusted = c.trusted;
     }
 
@@ -173,10 +172,10 @@ set_utc_time_persist c utc g s tick =
 
 -- fabric, node and endpoint agree
 abbrev pub same_source : Option TrustedSource → Option TrustedSource → Bool
-same_source none none = true
-same_source none (some t) = false
-same_source (some s) none = false
-same_source (some s) (some t) = eqb s.fabric t.fabric && (eqb s.node t.node && eqb s.endpoint t.endpoint)
+same_source None None = true
+same_source None (Some t) = false
+same_source (Some s) None = false
+same_source (Some s) (Some t) = eqb s.fabric t.fabric && (eqb s.node t.node && eqb s.endpoint t.endpoint)
 
 abbrev pub with_trusted : Clock → Option TrustedSource → Clock
 with_trusted c source =
@@ -200,8 +199,8 @@ set_trusted_time_source c source =
 
 -- what becomes of the source in flash
 abbrev pub source_in_flash : Option TrustedSource → Effect
-source_in_flash none = remove_source
-source_in_flash (some s) = store_source s
+source_in_flash None = remove_source
+source_in_flash (Some s) = store_source s
 
 -- `set_trusted_time_source_persist`: then the different source is stored, or the cleared one removed
 unfoldable pub set_trusted_time_source_persist : Clock → Option TrustedSource → Result Clock (Unit {0})

@@ -1,6 +1,5 @@
 -- What holds of the clock. The proofs stand in proofs/ClockLaws.antt; that a clock never reads less at a later tick is `NeverBack` in Claims.
-use Rattle.std.specs.Prelude.{true, List, ◌≡◌, ℕ, ◌≤◌, ◌<◌, take}
-use Rattle.std.proofs.Math.Option.{Option, some}
+use Rattle.std.specs.Prelude.{true, List, ◌≡◌, ℕ, ◌≤◌, ◌<◌, take, Option, Some}
 use Rattle.model.specs.declared.TimeGranularity.{TimeGranularity}
 use Rattle.model.specs.declared.TimeGranularity.TheVariants.{Seconds, Milliseconds}
 use Rattle.model.specs.declared.TimeSource.{TimeSource}
@@ -19,7 +18,7 @@ pub record IsSet (moment : ℕ) (g : TimeGranularity) (s : TimeSource) (tick : �
   pub utc : d.utc ≡ moment
   pub granularity : d.granularity ≡ lowered g
   pub from : d.source ≡ s
-  pub anchor : d.anchor ≡ some tick
+  pub anchor : d.anchor ≡ Some tick
   pub reported : take 3 effects ≡ utc_reports
 
 -- whatever the clock was, an equal setting too: by both settings, by a SetUTCTime that is readable, and by a reading that the client applies
@@ -29,7 +28,7 @@ pub record EverySetting : Type 0 where
   pub set_persist : (c : Clock) (utc : ℕ) (g : TimeGranularity) (s : TimeSource) (tick : ℕ)
       → IsSet utc g s tick (set_utc_time_persist c utc g s tick).state (set_utc_time_persist c utc g s tick).effects
   pub command : (d : Device) (utc number : ℕ) (g : TimeGranularity) (source : Option ℕ) (tick : ℕ)
-      → granularity_of number ≡ some g → source_readable source ≡ true
+      → granularity_of number ≡ Some g → source_readable source ≡ true
       → IsSet utc g Admin tick (set_utc_time_command d utc number source tick).state.clock (set_utc_time_command d utc number source tick).effects
   pub applied : (c : Client) (k : Clock) (utc : ℕ) (g : TimeGranularity) (tick : ℕ)
       → IsSet utc g NodeTimeCluster tick (attempt_of c k (Applied utc g) tick).clock (attempt_of c k (Applied utc g) tick).effects

@@ -1,7 +1,5 @@
 -- What a returned number tells: the refusal and the kinds of the effects come back from it. The proofs stand in proofs/CodeLaws.antt but for the last.
-use Rattle.std.specs.Prelude.{false, cond, List, [], ◌∷◌, map, ◌≡◌, ℕ, suc, ◌%◌, ◌^◌, ◌≤◌, ◌<◌, eqb, pos, length, get_or}
-use Rattle.std.proofs.Math.Option.{Option, none, some}
-use Rattle.std.proofs.Math.ListN.{get_elem?}
+use Rattle.std.specs.Prelude.{false, cond, List, [], ◌∷◌, map, ◌≡◌, ℕ, suc, ◌%◌, ◌^◌, ◌≤◌, ◌<◌, eqb, pos, length, get_or, Option, None, Some, slice_get}
 use Rattle.model.specs.declared.Refusal.{Refusal}
 use Rattle.model.specs.declared.TimeGranularity.{TimeGranularity}
 use Rattle.model.specs.declared.TimeSource.{TimeSource}
@@ -21,7 +19,7 @@ use Rattle.model.specs.Retries.{Client, Outcome, attempt}
 abbrev pub event_kind : Event → Event
 event_kind DSTTableEmpty = DSTTableEmpty
 event_kind (DSTStatus active) = DSTStatus false
-event_kind (TimeZoneStatus offset name) = TimeZoneStatus (pos 0) none
+event_kind (TimeZoneStatus offset name) = TimeZoneStatus (pos 0) None
 event_kind TimeFailure = TimeFailure
 event_kind MissingTrustedTimeSource = MissingTrustedTimeSource
 
@@ -41,14 +39,14 @@ kind_of remove_source = remove_source
 abbrev pub kinds : List Effect
 kinds =
     report UTCTime ∷ report Granularity ∷ report Attribute.TimeSource ∷ report TrustedTimeSource ∷ report TimeZone ∷ report DSTOffset
-    ∷ emit DSTTableEmpty ∷ emit (DSTStatus false) ∷ emit (TimeZoneStatus (pos 0) none) ∷ emit TimeFailure ∷ emit MissingTrustedTimeSource
+    ∷ emit DSTTableEmpty ∷ emit (DSTStatus false) ∷ emit (TimeZoneStatus (pos 0) None) ∷ emit TimeFailure ∷ emit MissingTrustedTimeSource
     ∷ wake_timer ∷ wake_client ∷ store_record ∷ remove_record ∷ store_moment 0 ∷ remove_moment
     ∷ store_source (record { fabric = 0; node = 0; endpoint = 0 }) ∷ remove_source ∷ []
 
 -- the first of some kinds whose code a number is
 unfoldable pub with_code : ℕ → List Effect → Option Effect
-with_code n [] = none
-with_code n (k ∷ ks) = cond (eqb (effect_code k) n) (some k) (with_code n ks)
+with_code n [] = None
+with_code n (k ∷ ks) = cond (eqb (effect_code k) n) (Some k) (with_code n ks)
 
 -- the kind whose code a number is; none for a number that is no code
 abbrev pub kind_named : ℕ → Option Effect
@@ -73,14 +71,14 @@ code_in r i = get_or (bytes 8 r) (suc i) 0
 
 -- the refusal of an answer, if it is one
 abbrev pub refusal_of_answer : {A : Type 0} → Answer A → Option Refusal
-refusal_of_answer (refused cause) = some cause
-refusal_of_answer (answers a) = none
+refusal_of_answer (refused cause) = Some cause
+refusal_of_answer (answers a) = None
 
 -- the returned number has 64 bits, and gives back the refusal and the kind of each effect, in order
 pub record GivesBack {A : Type 0} (a : Answer A) (es : List Effect) : Type 0 where
   pub fits : returned (number_of a) es < 2 ^ 64
   pub refusal : refusal_in (returned (number_of a) es) ≡ refusal_of_answer a
-  pub kind : (i : ℕ) → kind_named (code_in (returned (number_of a) es) i) ≡ get_elem? (map kind_of es) i
+  pub kind : (i : ℕ) → kind_named (code_in (returned (number_of a) es) i) ≡ slice_get (map kind_of es) i
 
 -- up to seven effects: `returned_gives_back`
 abbrev pub ReturnedGivesBack : Type 1

@@ -1,12 +1,11 @@
 -- The handler, `TimeSyncHandler`: commands and readings of a device that has a clock and maybe a list store.
-use Rattle.std.specs.Prelude.{Bool, true, false, List, [], ◌∷◌, ◌++◌, ℕ, zero, suc, ℤ, length}
-use Rattle.std.proofs.Math.Option.{Option, none, some}
+use Rattle.std.specs.Prelude.{Bool, true, false, List, [], ◌∷◌, ◌++◌, ℕ, zero, suc, ℤ, length, Option, None, Some, is_some}
 use Rattle.model.specs.declared.TimeGranularity.{TimeGranularity}
 use Rattle.model.specs.declared.TimeSource.{TimeSource}
 use Rattle.model.specs.declared.TimeSource.TheVariants.{Admin}
 use Rattle.model.specs.declared.Refusal.TheVariants.{Unreadable, ConstraintError, InvalidCommand, CommandNotFound, AttributeNotFound}
 use Rattle.model.specs.Numbers.{granularity_of, source_of}
-use Rattle.model.specs.Basics.{is_some, when}
+use Rattle.model.specs.Basics.{when}
 use Rattle.model.specs.Lists.{Zone, Window, Lists}
 use Rattle.model.specs.Answers.{Answer, refused, answers, done, TrustedSource, wake_timer, wake_client, Result, unchanged}
 use Rattle.model.specs.Lookups as L
@@ -28,11 +27,11 @@ module _ {A : Type 0} where
   of_clock d r = record { state = record { clock = r.state; store = d.store }; answer = r.answer; effects = r.effects }
 
   abbrev pub of_store : Device → Result Store A → Result Device A
-  of_store d r = record { state = record { clock = d.clock; store = some r.state }; answer = r.answer; effects = r.effects }
+  of_store d r = record { state = record { clock = d.clock; store = Some r.state }; answer = r.answer; effects = r.effects }
 
 abbrev pub stored_record : Option Store → List ℕ
-stored_record none = []
-stored_record (some s) = T.record_of s
+stored_record None = []
+stored_record (Some s) = T.record_of s
 
 -- the record of the lists as they now are; without a list store there is none
 abbrev pub record_of : Device → List ℕ
@@ -42,8 +41,8 @@ record_of d = stored_record d.store
 
 -- the request may leave the time source out; a number above 16 is unreadable, any other is ignored
 abbrev pub source_readable : Option ℕ → Bool
-source_readable none = true
-source_readable (some n) = is_some (source_of n)
+source_readable None = true
+source_readable (Some n) = is_some (source_of n)
 
 -- `set_utc_time` with source Admin, which stores nothing; then the timer is woken where there is a list store, changed or not
 abbrev pub utc_time_set : Device → ℕ → TimeGranularity → ℕ → Result Device (Unit {0})
@@ -55,9 +54,9 @@ utc_time_set d utc g tick =
     }
 
 abbrev pub utc_time_asked : Device → ℕ → Option TimeGranularity → Bool → ℕ → Result Device (Unit {0})
-utc_time_asked d utc none source_reads tick = unchanged d Unreadable
-utc_time_asked d utc (some g) false tick = unchanged d Unreadable
-utc_time_asked d utc (some g) true tick = utc_time_set d utc g tick
+utc_time_asked d utc None source_reads tick = unchanged d Unreadable
+utc_time_asked d utc (Some g) false tick = unchanged d Unreadable
+utc_time_asked d utc (Some g) true tick = utc_time_set d utc g tick
 
 -- a moment, the number of a granularity, maybe the number of a time source, and the tick
 unfoldable pub set_utc_time_command : Device → ℕ → ℕ → Option ℕ → ℕ → Result Device (Unit {0})
@@ -72,8 +71,8 @@ pub record Named : Type 0 where
 
 -- a source belongs to the fabric that sends the command
 abbrev pub source_of_fabric : ℕ → Option Named → Option TrustedSource
-source_of_fabric fabric none = none
-source_of_fabric fabric (some n) = some (record { fabric = fabric; node = n.node; endpoint = n.endpoint })
+source_of_fabric fabric None = None
+source_of_fabric fabric (Some n) = Some (record { fabric = fabric; node = n.node; endpoint = n.endpoint })
 
 -- fabric index 0 is an invalid command, null or not; else the client is woken last, even where the source is equal
 unfoldable pub set_trusted_time_source : Device → ℕ → Option Named → Result Device (Unit {0})
@@ -89,8 +88,8 @@ set_trusted_time_source d (suc f) named =
 
 module _ {A : Type 0} where
   abbrev pub command : Device → Option Store → (Store → Result Store A) → Result Device A
-  command d none call = unchanged d CommandNotFound
-  command d (some s) call = of_store d (call s)
+  command d None call = unchanged d CommandNotFound
+  command d (Some s) call = of_store d (call s)
 
 unfoldable pub set_time_zone : Device → List ℕ → Result Device Bool
 set_time_zone d bytes = command d d.store (λ s. T.set_time_zone s bytes)
@@ -101,8 +100,8 @@ set_dst_offset d bytes = command d d.store (λ s. T.set_dst_offset s bytes)
 -- ## Startup load and factory reset (`lifecycle`): with no list store there is nothing to do, and no record is read
 
 abbrev pub lifecycle : Device → Option Store → (Store → Result Store (Unit {0})) → Result Device (Unit {0})
-lifecycle d none call = record { state = d; answer = done; effects = [] }
-lifecycle d (some s) call = of_store d (call s)
+lifecycle d None call = record { state = d; answer = done; effects = [] }
+lifecycle d (Some s) call = of_store d (call s)
 
 unfoldable pub load_lists : Device → Option (List ℕ) → Result Device (Unit {0})
 load_lists d stored = lifecycle d d.store (λ s. T.load s stored)
@@ -133,8 +132,8 @@ abbrev pub read_trusted_time_source : Device → Option TrustedSource
 read_trusted_time_source d = d.clock.trusted
 
 abbrev pub lists_of : Option Store → Option Lists
-lists_of none = none
-lists_of (some s) = some s.lists
+lists_of None = None
+lists_of (Some s) = Some s.lists
 
 abbrev pub read_local_time : Device → ℕ → Answer (Option ℕ)
 read_local_time d tick = local_time (C.reading d.clock tick) (lists_of d.store)
@@ -143,13 +142,13 @@ read_local_time d tick = local_time (C.reading d.clock tick) (lists_of d.store)
 
 module _ {A : Type 0} where
   abbrev pub of_lists : Option Store → (Store → Answer A) → Answer A
-  of_lists none read = refused AttributeNotFound
-  of_lists (some s) read = read s
+  of_lists None read = refused AttributeNotFound
+  of_lists (Some s) read = read s
 
   -- an index at or past the listed length is a constraint error
   abbrev pub entry_of : Option A → Answer A
-  entry_of none = refused ConstraintError
-  entry_of (some a) = answers a
+  entry_of None = refused ConstraintError
+  entry_of (Some a) = answers a
 
 -- TimeZone: how many zones are listed, and one by its index
 unfoldable pub zones_listed : Device → Answer ℕ

@@ -1,6 +1,5 @@
 -- What the list calls make of the lists, one call at a time and over a whole history.
-use Rattle.std.specs.Prelude.{List, [], ℕ}
-use Rattle.std.proofs.Math.Option.{Option, none, some}
+use Rattle.std.specs.Prelude.{List, [], ℕ, Option, None, Some}
 use Rattle.model.specs.declared.Refusal.TheVariants.{Unreadable, BadRecord}
 use Rattle.model.specs.Basics.{run}
 use Rattle.model.specs.Lists.{Zone, Window, Lists, empty}
@@ -19,12 +18,12 @@ pub data Call : Type 0 where
 
 -- a section is read whole before any entry is tested, so Unreadable comes before the rules' causes
 abbrev pub zones_verdict : Rules → Option (List Zone) → Verdict
-zones_verdict r none = turned_down Unreadable
-zones_verdict r (some zs) = test_zones r zs
+zones_verdict r None = turned_down Unreadable
+zones_verdict r (Some zs) = test_zones r zs
 
 abbrev pub windows_verdict : Rules → Option (List Window) → Verdict
-windows_verdict r none = turned_down Unreadable
-windows_verdict r (some ws) = test_windows r ws
+windows_verdict r None = turned_down Unreadable
+windows_verdict r (Some ws) = test_windows r ws
 
 -- whatever the cause, a stored record that is turned down is a bad record
 abbrev pub as_bad_record : Verdict → Verdict
@@ -33,13 +32,13 @@ as_bad_record (turned_down cause) = turned_down BadRecord
 
 -- a stored record is taken where it is readable and the commands would accept both its lists
 abbrev pub record_verdict : Rules → Option Lists → Verdict
-record_verdict r none = turned_down BadRecord
-record_verdict r (some l) = as_bad_record (and_then (test_zones r l.zones) (test_windows r l.windows))
+record_verdict r None = turned_down BadRecord
+record_verdict r (Some l) = as_bad_record (and_then (test_zones r l.zones) (test_windows r l.windows))
 
 -- having no record is no fault
 abbrev pub load_verdict : Rules → Option (List ℕ) → Verdict
-load_verdict r none = accepted
-load_verdict r (some bytes) = record_verdict r (read_record bytes)
+load_verdict r None = accepted
+load_verdict r (Some bytes) = record_verdict r (read_record bytes)
 
 unfoldable pub verdict : Rules → Call → Verdict
 verdict r (SetTimeZone bytes) = zones_verdict r (read_zones bytes)
@@ -57,23 +56,23 @@ module _ {A : Type 0} where
 
 -- SetTimeZone: an accepted list replaces the zones and empties the windows; a refusal changes nothing
 abbrev pub zones_set : Rules → Lists → Option (List Zone) → Lists
-zones_set r l none = l
-zones_set r l (some zs) = if_accepted (test_zones r zs) (record { zones = zs; windows = [] }) l
+zones_set r l None = l
+zones_set r l (Some zs) = if_accepted (test_zones r zs) (record { zones = zs; windows = [] }) l
 
 -- SetDSTOffset: an accepted list replaces the windows, a readable one that is turned down empties them, an unreadable one changes nothing
 abbrev pub windows_set : Rules → Lists → Option (List Window) → Lists
-windows_set r l none = l
-windows_set r l (some ws) = record { zones = l.zones; windows = if_accepted (test_windows r ws) ws [] }
+windows_set r l None = l
+windows_set r l (Some ws) = record { zones = l.zones; windows = if_accepted (test_windows r ws) ws [] }
 
 -- loading a record: good lists replace both; a bad record changes nothing
 abbrev pub record_loaded : Rules → Lists → Option Lists → Lists
-record_loaded r l none = l
-record_loaded r l (some new) = if_accepted (record_verdict r (some new)) new l
+record_loaded r l None = l
+record_loaded r l (Some new) = if_accepted (record_verdict r (Some new)) new l
 
 -- loading: with no record the lists stay
 abbrev pub loaded : Rules → Lists → Option (List ℕ) → Lists
-loaded r l none = l
-loaded r l (some bytes) = record_loaded r l (read_record bytes)
+loaded r l None = l
+loaded r l (Some bytes) = record_loaded r l (read_record bytes)
 
 -- the lists after one call
 unfoldable pub after : Rules → Lists → Call → Lists

@@ -1,6 +1,5 @@
 -- The Time Synchronization cluster as definitions. No array, no count and no image stands here.
 pub mod Numbers
-pub mod Maybe
 pub mod Basics
 pub mod Lists
 pub mod Answers

@@ -1,7 +1,6 @@
 -- What holds of the timer's looks: a second look is silent, each fall from usable to unusable emits DSTTableEmpty once, and a sleep skips no transition.
 -- The proofs stand in proofs/Looks.antt.
-use Rattle.std.specs.Prelude.{Bool, not, ◌&&◌, cond, List, [], ◌∷◌, ◌++◌, ◌≡◌, ℕ, suc, ◌+◌, ◌-◌, ◌≤◌, ◌<◌}
-use Rattle.std.proofs.Math.Option.{Option, none, some}
+use Rattle.std.specs.Prelude.{Bool, not, ◌&&◌, cond, List, [], ◌∷◌, ◌++◌, ◌≡◌, ℕ, suc, ◌+◌, ◌-◌, ◌≤◌, ◌<◌, Option, None, Some}
 use Rattle.model.specs.Basics.{top, held_at_top}
 use Rattle.model.specs.Lists.{Lists}
 use Rattle.model.specs.Answers.{Event, DSTTableEmpty, DSTStatus, TimeZoneStatus, TimeFailure, MissingTrustedTimeSource}
@@ -29,7 +28,7 @@ pub record Instant : Type 0 where
 
 -- the look of a timer at an instant
 abbrev pub look_in : Timer → Instant → Look
-look_in timer i = look timer (some i.lists) i.reading
+look_in timer i = look timer (Some i.lists) i.reading
 
 -- the events of a run of looks, each with the timer that the one before left
 unfoldable pub events_over : Timer → List Instant → List Event
@@ -61,8 +60,8 @@ usables (i ∷ is) = usable_then i.lists i.reading (usables is)
 
 -- what the timer last saw of it, in front
 abbrev pub last_usable : Timer → List Bool → List Bool
-last_usable none bs = bs
-last_usable (some seen) bs = seen.usable ∷ bs
+last_usable None bs = bs
+last_usable (Some seen) bs = seen.usable ∷ bs
 
 -- how often true is followed by false
 unfoldable pub falls : List Bool → ℕ
@@ -77,14 +76,14 @@ OnceForEachFall = (timer : Timer) (is : List Instant) → empties (events_over t
 
 -- the sleep `s` of a look at `now` is for the transition `next`, a 64-bit moment
 pub record SleepsFor (timer : Timer) (l : Lists) (now next s : ℕ) : Type 0 where
-  pub transition : next_transition l now ≡ some next
+  pub transition : next_transition l now ≡ Some next
   pub moment : next ≤ top
-  pub sleep : (look timer (some l) (reliable now)).sleep ≡ at_most s
+  pub sleep : (look timer (Some l) (reliable now)).sleep ≡ at_most s
 
 -- a look at a reliable clock has such a sleep wherever there is a next transition
 abbrev pub SleepsWhereNext : Type 0
 SleepsWhereNext =
-    (timer : Timer) (l : Lists) (now next : ℕ) → next_transition l now ≡ some next → next ≤ top
+    (timer : Timer) (l : Lists) (now next : ℕ) → next_transition l now ≡ Some next → next ≤ top
     → SleepsFor timer l now next (held_at_top (next - now + 100000))
 
 -- it ends at the transition or past it, held or not
@@ -99,8 +98,8 @@ EndsMarginPast =
 
 -- the transition after `next`, if there is one, lies more than 100,000 µs after it
 abbrev pub FarFrom : ℕ → Option ℕ → Type 0
-FarFrom next none = Unit {0}
-FarFrom next (some m) = next + 100000 < m
+FarFrom next None = Unit {0}
+FarFrom next (Some m) = next + 100000 < m
 
 -- where it ends, all that is looked up is as at the transition: the next one is that after it, and none is skipped
 abbrev pub SkipsNone : Type 0

@@ -1,19 +1,11 @@
 -- The numbers of granularities, time sources and refusals.
-use Rattle.std.specs.Prelude.{List, [], ◌∷◌, ℕ, zero, suc}
-use Rattle.std.proofs.Math.Option.{Option, none, some}
-use Rattle.std.proofs.Math.ListN.{get_elem?}
+use Rattle.std.specs.Prelude.{List, [], ◌∷◌, ℕ, zero, suc, Option, None, slice_get}
 use Rattle.model.specs.declared.TimeGranularity.{TimeGranularity}
 use Rattle.model.specs.declared.TimeGranularity.TheVariants as G
 use Rattle.model.specs.declared.TimeSource.{TimeSource}
 use Rattle.model.specs.declared.TimeSource.TheVariants as S
 use Rattle.model.specs.declared.Refusal.{Refusal}
 use Rattle.model.specs.declared.Refusal.TheVariants as R
-use Rattle.model.specs.declared.GranularityRead.{GranularityRead}
-use Rattle.model.specs.declared.GranularityRead.TheVariants as GR
-use Rattle.model.specs.declared.RefusalRead.{RefusalRead}
-use Rattle.model.specs.declared.RefusalRead.TheVariants as RR
-use Rattle.model.specs.declared.SourceRead.{SourceRead}
-use Rattle.model.specs.declared.SourceRead.TheVariants as SR
 
 -- ## Granularities, 0 to 4
 
@@ -31,12 +23,7 @@ granularities = G.NoTime ∷ G.Minutes ∷ G.Seconds ∷ G.Milliseconds ∷ G.Mi
 
 -- the granularity that a number names; none for a number above 4
 unfoldable pub granularity_of : ℕ → Option TimeGranularity
-granularity_of n = get_elem? granularities n
-
--- what the enum `GranularityRead` stands for
-abbrev pub option_granularity : GranularityRead → Option TimeGranularity
-option_granularity (GR.Is g) = some g
-option_granularity GR.Bad = none
+granularity_of n = slice_get granularities n
 
 -- ## Time sources, 0 to 16
 
@@ -68,12 +55,7 @@ sources =
 
 -- the time source that a number names; none for a number above 16
 unfoldable pub source_of : ℕ → Option TimeSource
-source_of n = get_elem? sources n
-
--- what the enum `SourceRead` stands for
-abbrev pub option_time_source : SourceRead → Option TimeSource
-option_time_source (SR.Is s) = some s
-option_time_source SR.Bad = none
+source_of n = slice_get sources n
 
 -- ## Refusals, 1 to 9; a call that is not turned down has number 0
 
@@ -97,10 +79,5 @@ refusals =
 
 -- the refusal that a number names; none for 0 and for a number above 9
 unfoldable pub refusal_of : ℕ → Option Refusal
-refusal_of zero = none
-refusal_of (suc n) = get_elem? refusals n
-
--- what the enum `RefusalRead` stands for
-abbrev pub option_refusal : RefusalRead → Option Refusal
-option_refusal (RR.Is r) = some r
-option_refusal RR.Bad = none
+refusal_of zero = None
+refusal_of (suc n) = slice_get refusals n

@@ -1,6 +1,5 @@
 -- Calls that copy bytes into an output slice: NoSpace where the slice is too short, and what a history with such calls makes of the lists.
-use Rattle.std.specs.Prelude.{Bool, true, false, cond, List, [], ◌∷◌, ◌++◌, ℕ, ltb, ℤ, pos, length, drop}
-use Rattle.std.proofs.Math.Option.{Option, none, some}
+use Rattle.std.specs.Prelude.{Bool, true, false, cond, List, [], ◌∷◌, ◌++◌, ℕ, ltb, ℤ, pos, length, drop, Option, None, Some}
 use Rattle.model.specs.declared.Refusal.TheVariants.{NoSpace}
 use Rattle.model.specs.Basics.{run}
 use Rattle.model.specs.Lists.{Name, Lists, empty}
@@ -28,24 +27,24 @@ moments_bytes moments = all_bytes (λ m. bytes 8 m) moments
 
 module _ {A : Type 0} where
   abbrev pub mark_of : Option A → ℕ
-  mark_of none = 0
-  mark_of (some a) = 1
+  mark_of None = 0
+  mark_of (Some a) = 1
 
 abbrev pub truth : Bool → ℕ
 truth true = 1
 truth false = 0
 
 abbrev pub or_zero : Option ℕ → ℕ
-or_zero none = 0
-or_zero (some n) = n
+or_zero None = 0
+or_zero (Some n) = n
 
 abbrev pub or_zeroℤ : Option ℤ → ℤ
-or_zeroℤ none = pos 0
-or_zeroℤ (some z) = z
+or_zeroℤ None = pos 0
+or_zeroℤ (Some z) = z
 
 abbrev pub name_or : Option Name → Name
-name_or none = []
-name_or (some n) = n
+name_or None = []
+name_or (Some n) = n
 
 -- ## What a call leaves in what its caller lends
 
@@ -88,15 +87,15 @@ pub record SizedCall : Type 0 where
 
 -- the record that a call stores and so copies, if it stores one
 unfoldable pub stored_by : Rules → Lists → Call → Option (List ℕ)
-stored_by r l (SetTimeZone b) = if_accepted (verdict r (SetTimeZone b)) (some (record_bytes (after r l (SetTimeZone b)))) none
-stored_by r l (SetDSTOffset b) = if_accepted (verdict r (SetDSTOffset b)) (some (record_bytes (after r l (SetDSTOffset b)))) none
-stored_by r l (Load stored) = none
-stored_by r l FactoryReset = none
+stored_by r l (SetTimeZone b) = if_accepted (verdict r (SetTimeZone b)) (Some (record_bytes (after r l (SetTimeZone b)))) None
+stored_by r l (SetDSTOffset b) = if_accepted (verdict r (SetDSTOffset b)) (Some (record_bytes (after r l (SetDSTOffset b)))) None
+stored_by r l (Load stored) = None
+stored_by r l FactoryReset = None
 
 -- nothing to copy always has room
 abbrev pub lacks_room : ℕ → Option (List ℕ) → Bool
-lacks_room room none = false
-lacks_room room (some copied) = too_short room copied
+lacks_room room None = false
+lacks_room room (Some copied) = too_short room copied
 
 -- NoSpace is due; it is tested last, so only where the call would be taken
 unfoldable pub no_space : Rules → Lists → SizedCall → Bool

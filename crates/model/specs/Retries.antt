@@ -1,11 +1,10 @@
 -- The client, `TimeSyncClient`: attempts, waits and hourly marks, one step per event.
-use Rattle.std.specs.Prelude.{Bool, true, false, ◌&&◌, cond, List, [], ◌++◌, ℕ, ◌+◌, ◌*◌, min, leb}
-use Rattle.std.proofs.Math.Option.{Option, none, some}
+use Rattle.std.specs.Prelude.{Bool, true, false, ◌&&◌, cond, List, [], ◌++◌, ℕ, ◌+◌, ◌*◌, min, leb, Option, None, Some, is_some}
 use Rattle.model.specs.declared.TimeGranularity.{TimeGranularity}
 use Rattle.model.specs.declared.TimeGranularity.TheVariants as G
 use Rattle.model.specs.declared.TimeSource.TheVariants.{NodeTimeCluster}
 use Rattle.model.specs.Numbers.{granularity_of}
-use Rattle.model.specs.Basics.{Moment, Tick, is_some, when}
+use Rattle.model.specs.Basics.{Moment, Tick, when}
 use Rattle.model.specs.Answers.{Effect, emit, MissingTrustedTimeSource, TimeFailure}
 use Rattle.model.specs.Clock.{Clock, set_utc_time_persist}
 
@@ -30,7 +29,7 @@ first_retry period = min RETRY_MIN period
 
 -- a new client has marked nothing; what comes next is an attempt at once
 abbrev pub new_client : ℕ → Client
-new_client period = record { period = period; retry = first_retry period; missing_at = none; failure_at = none }
+new_client period = record { period = period; retry = first_retry period; missing_at = None; failure_at = None }
 
 -- ## An attempt's outcome
 
@@ -52,22 +51,22 @@ pub data Refresh : Type 0 where
   Failure : Refresh
 
 abbrev pub or_seconds : Option TimeGranularity → TimeGranularity
-or_seconds none = G.Seconds
-or_seconds (some g) = g
+or_seconds None = G.Seconds
+or_seconds (Some g) = g
 
 -- a missing granularity and a number above 4 count as Seconds
 abbrev pub granularity_told : Option ℕ → TimeGranularity
-granularity_told none = G.Seconds
-granularity_told (some n) = or_seconds (granularity_of n)
+granularity_told None = G.Seconds
+granularity_told (Some n) = or_seconds (granularity_of n)
 
 -- a null moment or NoTime gives no time; Microseconds are taken as Milliseconds, for the reading itself takes a while
 abbrev pub refresh_told : Option ℕ → TimeGranularity → Refresh
-refresh_told none g = NoTime
-refresh_told (some utc) G.NoTime = NoTime
-refresh_told (some utc) G.Minutes = Applied utc G.Minutes
-refresh_told (some utc) G.Seconds = Applied utc G.Seconds
-refresh_told (some utc) G.Milliseconds = Applied utc G.Milliseconds
-refresh_told (some utc) G.Microseconds = Applied utc G.Milliseconds
+refresh_told None g = NoTime
+refresh_told (Some utc) G.NoTime = NoTime
+refresh_told (Some utc) G.Minutes = Applied utc G.Minutes
+refresh_told (Some utc) G.Seconds = Applied utc G.Seconds
+refresh_told (Some utc) G.Milliseconds = Applied utc G.Milliseconds
+refresh_told (Some utc) G.Microseconds = Applied utc G.Milliseconds
 
 -- having no source comes before the outcome
 unfoldable pub refresh : Bool → Outcome → Refresh
@@ -79,12 +78,12 @@ refresh true (told t) = refresh_told t.utc (granularity_told t.granularity)
 
 -- due: never marked, or marked at least the interval ago; a tick before the mark is not due
 abbrev pub due : Option ℕ → ℕ → Bool
-due none tick = true
-due (some mark) tick = leb (mark + TIME_EVENTS_INTERVAL) tick
+due None tick = true
+due (Some mark) tick = leb (mark + TIME_EVENTS_INTERVAL) tick
 
 -- an event that is due is marked at the tick; else the mark is kept
 abbrev pub marked : Option ℕ → ℕ → Option ℕ
-marked mark tick = cond (due mark tick) (some tick) mark
+marked mark tick = cond (due mark tick) (Some tick) mark
 
 -- what got no time for want of a source that answers
 abbrev pub source_missing : Refresh → Bool

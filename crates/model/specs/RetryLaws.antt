@@ -1,6 +1,6 @@
 -- Runs of a client, step after step, at any clocks and any ticks, and what holds of them. The proofs stand in proofs/RetryLaws.antt.
-use Rattle.std.specs.Prelude.{Bool, false, List, [], ◌∷◌, ◌++◌, map, ◌≡◌, ℕ, ◌+◌, ◌*◌, ◌^◌, ◌≤◌, min, eqb, length}
-use Rattle.model.specs.Basics.{is_some, keep, All, run}
+use Rattle.std.specs.Prelude.{Bool, false, List, [], ◌∷◌, ◌++◌, map, ◌≡◌, ℕ, ◌+◌, ◌*◌, ◌^◌, ◌≤◌, min, eqb, length, is_some}
+use Rattle.model.specs.Basics.{keep, All, run}
 use Rattle.model.specs.Answers.{Event, event_number, MissingTrustedTimeSource, TimeFailure, Effect, report, emit, wake_timer, wake_client, store_record, remove_record, store_moment, remove_moment, store_source, remove_source}
 use Rattle.model.specs.Clock.{Clock}
 use Rattle.model.specs.Retries.{Client, first_retry, Outcome, Refresh, Applied, NoTime, NoSource, Failure, refresh, Step, attempt, wait_for, source_changed, RETRY_MIN, TIME_EVENTS_INTERVAL}

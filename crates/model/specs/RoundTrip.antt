@@ -1,6 +1,5 @@
 -- What is written reads back, and nothing but what is written is readable.
-use Rattle.std.specs.Prelude.{true, List, ◌≡◌, ℕ, ◌^◌, ◌≤◌, ◌<◌, ℤ, pos, negsuc, length}
-use Rattle.std.proofs.Math.Option.{Option, none, some}
+use Rattle.std.specs.Prelude.{true, List, ◌≡◌, ℕ, ◌^◌, ◌≤◌, ◌<◌, ℤ, pos, negsuc, length, Option, None, Some}
 use Rattle.model.specs.Basics.{All}
 use Rattle.model.specs.Lists.{Name, Zone, Window, Lists}
 use Rattle.model.specs.Rules.{Rules, allowed, accepted}
@@ -26,12 +25,12 @@ IsMoment m = m < 2 ^ 64
 
 -- a name is well-formed UTF-8 whose length fits a byte
 abbrev pub IsName : Option Name → Type 0
-IsName none = Unit {0}
-IsName (some n) = (well_formed n ≡ true) × (length n < 256) × AreBytes n
+IsName None = Unit {0}
+IsName (Some n) = (well_formed n ≡ true) × (length n < 256) × AreBytes n
 
 abbrev pub IsUntil : Option ℕ → Type 0
-IsUntil none = Unit {0}
-IsUntil (some e) = IsMoment e
+IsUntil None = Unit {0}
+IsUntil (Some e) = IsMoment e
 
 pub record ZoneFits (z : Zone) : Type 0 where
   pub offset : IsOffset z.offset
@@ -59,31 +58,31 @@ pub record ListsFit (l : Lists) : Type 0 where
 -- ## A readable section is the writing of what it reads as: `zones_written`, `windows_written`, `record_written` in proofs/ReadBack.antt
 
 abbrev pub ZonesWritten : Type 0
-ZonesWritten = (s : List ℕ) (zs : List Zone) → AreBytes s → read_zones s ≡ some zs → (s ≡ zones_bytes zs) × ZonesFit zs
+ZonesWritten = (s : List ℕ) (zs : List Zone) → AreBytes s → read_zones s ≡ Some zs → (s ≡ zones_bytes zs) × ZonesFit zs
 
 abbrev pub WindowsWritten : Type 0
-WindowsWritten = (s : List ℕ) (ws : List Window) → AreBytes s → read_windows s ≡ some ws → (s ≡ windows_bytes ws) × WindowsFit ws
+WindowsWritten = (s : List ℕ) (ws : List Window) → AreBytes s → read_windows s ≡ Some ws → (s ≡ windows_bytes ws) × WindowsFit ws
 
 abbrev pub RecordWritten : Type 0
-RecordWritten = (s : List ℕ) (l : Lists) → AreBytes s → read_record s ≡ some l → (s ≡ record_bytes l) × ListsFit l
+RecordWritten = (s : List ℕ) (l : Lists) → AreBytes s → read_record s ≡ Some l → (s ≡ record_bytes l) × ListsFit l
 
 -- ## What is written reads back: `zones_back`, `windows_back`, `record_back` in proofs/WriteBack.antt
 
 abbrev pub ZonesBack : Type 0
-ZonesBack = (zs : List Zone) → ZonesFit zs → read_zones (zones_bytes zs) ≡ some zs
+ZonesBack = (zs : List Zone) → ZonesFit zs → read_zones (zones_bytes zs) ≡ Some zs
 
 abbrev pub WindowsBack : Type 0
-WindowsBack = (ws : List Window) → WindowsFit ws → read_windows (windows_bytes ws) ≡ some ws
+WindowsBack = (ws : List Window) → WindowsFit ws → read_windows (windows_bytes ws) ≡ Some ws
 
 abbrev pub RecordBack : Type 0
-RecordBack = (l : Lists) → ListsFit l → read_record (record_bytes l) ≡ some l
+RecordBack = (l : Lists) → ListsFit l → read_record (record_bytes l) ≡ Some l
 
 -- ## The record of accepted lists reads back, is taken, gives the lists again, and fits its buffer
 
 pub record ReadsBack (r : Rules) (l : Lists) : Type 0 where
-  pub reads : read_record (record_bytes l) ≡ some l
-  pub taken : verdict r (Load (some (record_bytes l))) ≡ accepted
-  pub again : (old : Lists) → after r old (Load (some (record_bytes l))) ≡ l
+  pub reads : read_record (record_bytes l) ≡ Some l
+  pub taken : verdict r (Load (Some (record_bytes l))) ≡ accepted
+  pub again : (old : Lists) → after r old (Load (Some (record_bytes l))) ≡ l
   pub short : length (record_bytes l) ≤ record_most
 
 -- `accepted_reads_back` in proofs/Stored.antt
@@ -96,8 +95,8 @@ AcceptedReadsBack = (r : Rules) → allowed r ≡ true → (l : Lists) → Accep
 abbrev pub CallBytes : Call → Type 0
 CallBytes (SetTimeZone b) = AreBytes b
 CallBytes (SetDSTOffset b) = AreBytes b
-CallBytes (Load none) = Unit {0}
-CallBytes (Load (some b)) = AreBytes b
+CallBytes (Load None) = Unit {0}
+CallBytes (Load (Some b)) = AreBytes b
 CallBytes FactoryReset = Unit {0}
 
 -- `stored_reads_back` in proofs/Stored.antt

@@ -1,11 +1,9 @@
 -- When SetTimeZone and SetDSTOffset accept a list, and what they turn it down with.
-use Rattle.std.specs.Prelude.{Bool, true, false, not, ◌&&◌, List, [], ◌∷◌, ℕ, suc, leb, ltb, eqb, ℤ, pos, neg_ℤ, length}
+use Rattle.std.specs.Prelude.{Bool, true, false, not, ◌&&◌, List, [], ◌∷◌, ℕ, suc, leb, ltb, eqb, ℤ, pos, neg_ℤ, length, Option, None, Some, is_some}
 use Rattle.std.specs.Bool.{beq}
-use Rattle.std.proofs.Math.Option.{Option, none, some}
 use Rattle.std.specs.Int.Signed.{le_z}
 use Rattle.model.specs.declared.Refusal.{Refusal}
 use Rattle.model.specs.declared.Refusal.TheVariants.{ConstraintError, ResourceExhausted}
-use Rattle.model.specs.Basics.{is_some}
 use Rattle.model.specs.Lists.{Name, Zone, Window}
 
 -- ## Limits
@@ -50,7 +48,7 @@ module _ {A : Type 0} (limit : ℕ) (rule : ℕ → Option A → A → Verdict) 
   unfoldable pub test_from : ℕ → Option A → List A → Verdict
   test_from index before [] = accepted
   test_from index before (x ∷ xs) =
-      demand (not (eqb index limit)) ResourceExhausted (and_then (rule index before x) (test_from (suc index) (some x) xs))
+      demand (not (eqb index limit)) ResourceExhausted (and_then (rule index before x) (test_from (suc index) (Some x) xs))
 
 -- ## Zones
 
@@ -60,8 +58,8 @@ zero_exactly_at_first index z = beq (eqb index 0) (eqb z.start 0)
 
 -- it starts after the zone before it
 abbrev pub above_the_one_before : Option Zone → Zone → Bool
-above_the_one_before none z = true
-above_the_one_before (some before) z = ltb before.start z.start
+above_the_one_before None z = true
+above_the_one_before (Some before) z = ltb before.start z.start
 
 -- its offset lies from 12 hours west to 14 hours east, both included
 abbrev pub offset_in_range : ℤ → Bool
@@ -69,8 +67,8 @@ offset_in_range o = le_z (neg_ℤ (pos 43200)) o && le_z o (pos 50400)
 
 -- its name, if it has one, is at most 64 bytes long
 abbrev pub name_fits : Option Name → Bool
-name_fits none = true
-name_fits (some n) = leb (length n) 64
+name_fits None = true
+name_fits (Some n) = leb (length n) 64
 
 -- the rule for one zone of SetTimeZone
 unfoldable pub zone_rule : ℕ → Option Zone → Zone → Verdict
@@ -82,29 +80,29 @@ zone_rule index before z =
 
 -- what SetTimeZone says of a list
 unfoldable pub test_zones : Rules → List Zone → Verdict
-test_zones r zs = test_from r.zone_limit zone_rule 0 none zs
+test_zones r zs = test_from r.zone_limit zone_rule 0 None zs
 
 -- ## Windows (`validate_dst_offset`); every offset passes
 
 -- the window before has an end: nothing comes after an open one
 abbrev pub not_after_open : Option Window → Bool
-not_after_open none = true
-not_after_open (some before) = is_some before.until
+not_after_open None = true
+not_after_open (Some before) = is_some before.until
 
 -- the window starts after the start before it
 abbrev pub above_the_start_before : Option Window → Window → Bool
-above_the_start_before none w = true
-above_the_start_before (some before) w = ltb before.start w.start
+above_the_start_before None w = true
+above_the_start_before (Some before) w = ltb before.start w.start
 
 -- a moment is at or past an end; an open window's end never comes
 abbrev pub reached : ℕ → Option ℕ → Bool
-reached moment none = false
-reached moment (some e) = leb e moment
+reached moment None = false
+reached moment (Some e) = leb e moment
 
 -- the window does not start before the end before it
 abbrev pub not_below_the_end_before : Option Window → Window → Bool
-not_below_the_end_before none w = true
-not_below_the_end_before (some before) w = reached w.start before.until
+not_below_the_end_before None w = true
+not_below_the_end_before (Some before) w = reached w.start before.until
 
 -- the window starts before its own end
 abbrev pub below_its_own_end : Window → Bool
@@ -120,4 +118,4 @@ window_rule index before w =
 
 -- what SetDSTOffset says of a list
 unfoldable pub test_windows : Rules → List Window → Verdict
-test_windows r ws = test_from r.window_limit window_rule 0 none ws
+test_windows r ws = test_from r.window_limit window_rule 0 None ws

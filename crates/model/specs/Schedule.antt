@@ -1,6 +1,5 @@
 -- The schedule program: the text that it prints for what it reads.
-use Rattle.std.specs.Prelude.{Bool, true, false, ◌||◌, cond, List, [], ◌∷◌, ◌++◌, ℕ, zero, suc, ◌+◌, ◌/◌, ◌%◌, ltb, ℤ, pos, negsuc, length, take, drop}
-use Rattle.std.proofs.Math.Option.{Option, none, some}
+use Rattle.std.specs.Prelude.{Bool, true, false, ◌||◌, cond, List, [], ◌∷◌, ◌++◌, ℕ, zero, suc, ◌+◌, ◌/◌, ◌%◌, ltb, ℤ, pos, negsuc, length, take, drop, Option, None, Some}
 use Rattle.model.specs.Lists.{Lists}
 use Rattle.model.specs.Rules.{largest}
 use Rattle.model.specs.Bytes.{number, all_bytes, read_record}
@@ -51,8 +50,8 @@ signed_decimal (negsuc n) = 45 ∷ decimal (suc n)
 
 -- the active window's offset; `-` where there is none
 abbrev pub offset_or_dash : Option ℤ → List ℕ
-offset_or_dash none = 45 ∷ []
-offset_or_dash (some o) = signed_decimal o
+offset_or_dash None = 45 ∷ []
+offset_or_dash (Some o) = signed_decimal o
 
 -- ## The text
 
@@ -67,8 +66,8 @@ walk_text l w = header ++ (all_bytes (line l) w.moments ++ (steps_word ++ (decim
 
 -- a record that cannot be loaded at the largest limits is refused with 7
 abbrev pub record_text : Option Lists → ℕ → List ℕ
-record_text none m = refused7
-record_text (some l) m = if_accepted (record_verdict largest (some l)) (walk_text l (walk l m)) refused7
+record_text None m = refused7
+record_text (Some l) m = if_accepted (record_verdict largest (Some l)) (walk_text l (walk l m)) refused7
 
 -- a moment in 8 bytes and a record; input of fewer than 8 or more than 970 bytes is refused with 7 too
 unfoldable pub schedule : List ℕ → List ℕ

@@ -1,6 +1,5 @@
 -- The list store, `TimeZoneStore`: its calls, with what they leave, their answers and their effects.
-use Rattle.std.specs.Prelude.{Bool, true, cond, List, [], ◌∷◌, ℕ, ◌+◌, ◌%◌, ◌^◌}
-use Rattle.std.proofs.Math.Option.{Option, none, some}
+use Rattle.std.specs.Prelude.{Bool, true, cond, List, [], ◌∷◌, ℕ, ◌+◌, ◌%◌, ◌^◌, Option, None, Some}
 use Rattle.model.specs.declared.Refusal.TheVariants.{Unreadable, BadLimits}
 use Rattle.model.specs.Basics.{run}
 use Rattle.model.specs.Lists.{Window, Lists, empty}
@@ -64,8 +63,8 @@ windows_tested s bytes (turned_down cause) =
 
 -- an unreadable request changes nothing and wakes nobody
 abbrev pub windows_read : Store → List ℕ → Option (List Window) → Result Store (Unit {0})
-windows_read s bytes none = unchanged s Unreadable
-windows_read s bytes (some ws) = windows_tested s bytes (test_windows s.rules ws)
+windows_read s bytes None = unchanged s Unreadable
+windows_read s bytes (Some ws) = windows_tested s bytes (test_windows s.rules ws)
 
 unfoldable pub set_dst_offset : Store → List ℕ → Result Store (Unit {0})
 set_dst_offset s bytes = windows_read s bytes (read_windows bytes)

@@ -1,6 +1,5 @@
 -- The moments at the edge, P1 to P12, as rows of one table under one claim. Limits 2 and 2, clock reliable.
-use Rattle.std.specs.Prelude.{Bool, false, List, [], ◌∷◌, ◌≡◌, ℕ, zero, suc, ℤ, pos, neg_ℤ}
-use Rattle.std.proofs.Math.Option.{Option, none, some}
+use Rattle.std.specs.Prelude.{Bool, false, List, [], ◌∷◌, ◌≡◌, ℕ, zero, suc, ℤ, pos, neg_ℤ, Option, None, Some}
 use Rattle.model.specs.declared.Refusal.TheVariants.{ConstraintError, ResourceExhausted}
 use Rattle.model.specs.Basics.{All}
 use Rattle.model.specs.Lists.{Zone, Window, Lists, empty}
@@ -31,7 +30,7 @@ pub data Row : Type 0 where
 
 -- a clock that has a trusted source
 abbrev pub sourced : Clock
-sourced = with_trusted (fresh 0) (some (record { fabric = 1; node = 1; endpoint = 0 }))
+sourced = with_trusted (fresh 0) (Some (record { fabric = 1; node = 1; endpoint = 0 }))
 
 -- what comes after each of so many attempts that fail
 unfoldable pub waits : ℕ → Client → List Next
@@ -41,24 +40,24 @@ waits (suc n) c = (attempt c sourced failed 0).next ∷ waits n (attempt c sourc
 -- what a row claims
 abbrev pub Holds : Row → Type 0
 Holds (always l zone u local) =
-    Accepted device l × ((now : ℕ) → (active_zone l now ≡ zone) × (usable l now ≡ u) × (local_time (reliable now) (some l) ≡ answers local))
-Holds (local_at l utc local) = Accepted device l × (local_time (reliable utc) (some l) ≡ answers local)
+    Accepted device l × ((now : ℕ) → (active_zone l now ≡ zone) × (usable l now ≡ u) × (local_time (reliable now) (Some l) ≡ answers local))
+Holds (local_at l utc local) = Accepted device l × (local_time (reliable utc) (Some l) ≡ answers local)
 Holds (zones_are zs v) = test_zones device zs ≡ v
 Holds (windows_are ws v) = test_windows device ws ≡ v
-Holds (sleeps_at l now sleep) = Accepted device l × ((timer : Timer) → (look timer (some l) (reliable now)).sleep ≡ sleep)
+Holds (sleeps_at l now sleep) = Accepted device l × ((timer : Timer) → (look timer (Some l) (reliable now)).sleep ≡ sleep)
 Holds (waits_are period ns) = waits 5 (new_client period) ≡ ns
 
 -- ## Short words for the rows
 
 abbrev pub zone : ℤ → ℕ → Zone
-zone offset start = record { offset = offset; start = start; name = none }
+zone offset start = record { offset = offset; start = start; name = None }
 
 abbrev pub window : ℤ → ℕ → Option ℕ → Window
 window offset start until = record { offset = offset; start = start; until = until }
 
 -- one hour of summer time
 abbrev pub hour : ℕ → ℕ → Window
-hour start until = window (pos 3600) start (some until)
+hour start until = window (pos 3600) start (Some until)
 
 abbrev pub windows : List Window → Lists
 windows ws = record { zones = []; windows = ws }
@@ -72,12 +71,12 @@ pub data Entry : Type 0 where
 
 abbrev pub table : List Entry
 table =
-    1 is_row always empty (record { offset = pos 0; name = none }) false none
-    ∷ 2 is_row local_at (windows (window (pos 3600) 1000 none ∷ [])) 500 (some 500)
-    ∷ 3 is_row local_at (windows (window (pos 3600) 1000 none ∷ [])) 1000 (some 3600001000)
-    ∷ 4 is_row local_at (windows (hour 1000 2000 ∷ [])) 1999 (some 3600001999)
-    ∷ 4 is_row local_at (windows (hour 1000 2000 ∷ [])) 2000 none
-    ∷ 5 is_row local_at (record { zones = zone (neg_ℤ (pos 43200)) 0 ∷ []; windows = window (pos 0) 0 none ∷ [] }) 1 (some 0)
+    1 is_row always empty (record { offset = pos 0; name = None }) false None
+    ∷ 2 is_row local_at (windows (window (pos 3600) 1000 None ∷ [])) 500 (Some 500)
+    ∷ 3 is_row local_at (windows (window (pos 3600) 1000 None ∷ [])) 1000 (Some 3600001000)
+    ∷ 4 is_row local_at (windows (hour 1000 2000 ∷ [])) 1999 (Some 3600001999)
+    ∷ 4 is_row local_at (windows (hour 1000 2000 ∷ [])) 2000 None
+    ∷ 5 is_row local_at (record { zones = zone (neg_ℤ (pos 43200)) 0 ∷ []; windows = window (pos 0) 0 None ∷ [] }) 1 (Some 0)
     ∷ 6 is_row zones_are (zone (pos 50400) 0 ∷ []) accepted
     ∷ 6 is_row zones_are (zone (neg_ℤ (pos 43200)) 0 ∷ []) accepted
     ∷ 6 is_row zones_are (zone (pos 50401) 0 ∷ []) (turned_down ConstraintError)
@@ -89,7 +88,7 @@ table =
     ∷ 9 is_row windows_are (hour 1000 1000 ∷ hour 2000 3000 ∷ hour 3000 4000 ∷ []) (turned_down ConstraintError)
     ∷ 10 is_row zones_are (zone (pos 0) 5 ∷ []) (turned_down ConstraintError)
     ∷ 10 is_row zones_are (zone (pos 0) 0 ∷ zone (pos 0) 0 ∷ []) (turned_down ConstraintError)
-    ∷ 11 is_row sleeps_at (windows (window (pos 3600) 1000 none ∷ [])) 500 (at_most 100500)
+    ∷ 11 is_row sleeps_at (windows (window (pos 3600) 1000 None ∷ [])) 500 (at_most 100500)
     ∷ 12 is_row waits_are 300000000 (wait_for 60000000 ∷ wait_for 120000000 ∷ wait_for 240000000 ∷ wait_for 300000000 ∷ wait_for 300000000 ∷ [])
     ∷ []
 

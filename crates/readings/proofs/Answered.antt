@@ -1,117 +1,180 @@
--- The common shape of a reading: refused before anything is read, or what is read.
-use mathlib.Core.Bool.{Bool, true, false, cond}
-use mathlib.Core.List.{List}
-use mathlib.Core.Option.{Option, none, some}
-use mathlib.Core.Path.{◌≡◌, refl, sym, ◌∙◌, ap}
-use Prim.Native.Nat.{ℕ, ◌<◌, ◌≤◌}
-use native.Mathlib.Omega.{arith}
-use borrow.Author.Tests.{lt-ltb, le-ltb}
-use lib.ListN.{length}
+-- What is read of an image, out of its table, or the refusal. The checks of the readings rewrite by these.
+use Rattle.std.specs.Prelude.{Bool, option_copied, is_some, unwrap_or}
+use mir.Val.{bool_byte}
+use Rattle.std.specs.Result.{result_ok}
+use Rattle.std.proofs.Common.{◌≡◌, ℕ, ◌≤◌, max, List, [], ◌∷◌, length, Option, None, Some, Result, Ok, Err, Bor, true, MatchResult, option_map, refl, sym, ap, ◌∙◌, arith}
 use Rattle.model.specs.declared.Refusal.{Refusal}
-use Rattle.model.specs.declared.Refusal.TheVariants.{ConstraintError, AttributeNotFound, BadLimits, NoSpace}
-use Rattle.model.specs.Numbers.{refusal_number}
-use Rattle.model.specs.Answers.{Answer, refused, answers, number_of}
-use Rattle.model.specs.Output.{roomy, leaves}
-use Rattle.model.specs.Store.{Store}
-use Rattle.model.specs.Handler.{of_lists, entry_of}
+use Rattle.model.specs.declared.Refusal.TheVariants.{AttributeNotFound, ConstraintError}
+use Rattle.model.specs.Answers.{Answer, refused, answers}
+use Rattle.model.specs.Lists.{Zone}
+use Rattle.model.specs.Lookups as L
+use Rattle.model.specs.Clock as C
+use Rattle.model.specs.LocalTime as M
+use Rattle.model.specs.Walk.{walk}
+use Rattle.model.specs.Output.{mark_of, or_zero}
+use Rattle.model.specs.Store.{Store, record_of}
+use Rattle.model.specs.Handler as H
 use Rattle.model.proofs.Facts.{by_test}
-use Rattle.table.specs.Layout.{table_size, store_in}
-use Rattle.image.specs.Layout.{image_size, is_image, table_in}
-use Rattle.image.specs.Parts.{has_lists, device_in}
+use Rattle.table.specs.Layout.{table_size, zone_at, window_at, zone_place, window_place, zone_count, window_count, zones_in, windows_in, lists_in, store_in}
+use Rattle.lookups.proofs.Entries.{length_entries}
+use Rattle.lookups.proofs.Views.{active_shown, zone_listed_lem, window_listed_lem}
+use Rattle.lookups.specs.Shown.{shown_by, active_index, zone_listed_in, window_listed_in}
+use Rattle.lookups.specs.Laws.{zone_now_in, zone_in, zone_listed_of, window_of, window_listed_of}
+use Rattle.lookups.specs.declared.ZoneShown.{ZoneShown}
+use Rattle.lookups.specs.declared.DSTOffsetEntry.{DSTOffsetEntry}
+use Rattle.image.specs.Layout.{is_image, table_in}
+use Rattle.image.specs.Parts.{has_lists, clock_in, device_in}
 use Rattle.image.specs.Asked.{asked}
-use Rattle.image.proofs.Outside.{image_is}
 use Rattle.image.proofs.Alone.{table_long}
-use Rattle.readings.specs.There.{lists_refusal}
+use Rattle.readings.specs.There.{table_read}
+
+-- where there is a table it has all its bytes
+pub table_sized : (s t : List ℕ) → table_read s ≡ answers t → table_size ≤ length t
+unfolding table_read
+table_sized s t e =
+    by_test (is_image s)
+    (λ i.
+    let n = table_long s i in
+    by_test (has_lists s)
+    (λ m. let q : answers (table_in s) ≡ answers t = rw (i, m) at e in let p : table_in s ≡ t = cc in omega (arith, ap length p))
+    (λ m. let q = rw (i, m) at e in cc))
+    (λ i. let q = rw i at e in cc)
 
 module _ {A : Type 0} where
-  -- an answer that is a refusal, with its number
-  pub record Refused (a : Answer A) (n : ℕ) : Type 0 where
-    pub cause : Refusal
-    pub is : a ≡ refused cause
-    pub number : n ≡ refusal_number cause
+  -- what is read in a table, or the refusal
+  abbrev pub of_table : (List ℕ → Answer A) → Answer (List ℕ) → Answer A
+  of_table found (refused cause) = refused cause
+  of_table found (answers t) = found t
 
-  module _ {a : Answer A} {n : ℕ} (r : Refused a n) where
-    pub refused_number : n ≡ number_of a
-    refused_number = r.number ∙ sym (ap number_of r.is)
+  -- a reading that needs the list store
+  store_is : (read : Store → Answer A) (found : List ℕ → Answer A) (s : List ℕ) → ((t : List ℕ) → read (store_in t) ≡ found t)
+      → asked s (H.of_lists (device_in s).store read) ≡ of_table found (table_read s)
+  unfolding table_read
+  store_is read found s e =
+      by_test (is_image s) (λ i. by_test (has_lists s) (λ m. rw (i, m) (e (table_in s))) (λ m. rw (i, m))) (λ i. rw i)
 
-    pub refused_leaves : {B : Type 0} (new : A → B) (old : B) → old ≡ leaves a new old
-    refused_leaves new old = sym (ap (λ (b : Answer A). leaves b new old) r.is)
+  pub store_refused : (read : Store → Answer A) (s : List ℕ) (cause : Refusal) → table_read s ≡ refused cause → asked s (H.of_lists (device_in s).store read) ≡ refused cause
+  store_refused read s cause e = store_is read (λ t. read (store_in t)) s (λ t. refl) ∙ ap (of_table (λ t. read (store_in t))) e
 
-    pub refused_roomy : (room : ℕ) (copied : A → List ℕ) → Refused (roomy room copied a) n
-    refused_roomy room copied = record { cause = r.cause; is = ap (roomy room copied) r.is; number = r.number }
+  store_answers : (read : Store → Answer A) (s t : List ℕ) → table_read s ≡ answers t → asked s (H.of_lists (device_in s).store read) ≡ read (store_in t)
+  store_answers read s t e = store_is read (λ t. read (store_in t)) s (λ t. refl) ∙ ap (of_table (λ t. read (store_in t))) e
 
-  module _ {a : Answer A} {v : A} (e : a ≡ answers v) where
-    pub answered_number : 0 ≡ number_of a
-    answered_number = sym (ap number_of e)
+-- ## Numbers of the list store
 
-    pub answered_leaves : {B : Type 0} (new : A → B) (old x : B) → x ≡ new v → x ≡ leaves a new old
-    answered_leaves new old x q = q ∙ sym (ap (λ (b : Answer A). leaves b new old) e)
+-- an empty list shows one zone
+length_listed : (zs : List Zone) → length (L.listed zs) ≡ max (length zs) 1
+length_listed [] = omega arith
+length_listed (z ∷ zs) = omega arith
 
-    -- what is copied has n bytes; 9 where they have no room
-    pub no_room : (room : ℕ) (copied : A → List ℕ) (n : ℕ) → n ≡ length (copied v) → room < n → Refused (roomy room copied a) 9
-    no_room room copied n q h =
-        let t = lt-ltb room (length (copied v)) (omega arith) in
-        record { cause = NoSpace; is = ap (roomy room copied) e ∙ rw t; number = refl }
+listed_are : (t : List ℕ) → length (L.listed (zones_in t)) ≡ max (zone_count t) 1
+unfolding zones_in
+listed_are t = omega (arith, length_listed (zones_in t), length_entries (λ i. zone_at t (zone_place i)) 0 (zone_count t))
 
-    pub has_room : (room : ℕ) (copied : A → List ℕ) (n : ℕ) → n ≡ length (copied v) → n ≤ room → roomy room copied a ≡ answers v
-    has_room room copied n q h =
-        let t = le-ltb room (length (copied v)) (omega arith) in
-        ap (roomy room copied) e ∙ rw t
+windows_are : (t : List ℕ) → length (windows_in t) ≡ window_count t
+unfolding windows_in
+windows_are t = length_entries (λ i. window_at t (window_place i)) 0 (window_count t)
 
-  -- the same answer, read in the table
-  module _ {a b : Answer A} (e : a ≡ b) where
-    pub same_number : (n : ℕ) → n ≡ number_of b → n ≡ number_of a
-    same_number n q = q ∙ sym (ap number_of e)
+module _ (s : List ℕ) where
+  pub zones_listed_is : asked s (H.zones_listed (device_in s)) ≡ of_table (λ t. answers (max (zone_count t) 1)) (table_read s)
+  unfolding H.zones_listed
+  zones_listed_is = store_is _ _ s (λ t. ap answers (listed_are t))
 
-    pub same_leaves : {B : Type 0} (new : A → B) (old x : B) → x ≡ leaves b new old → x ≡ leaves a new old
-    same_leaves new old x q = q ∙ sym (ap (λ (b : Answer A). leaves b new old) e)
+  pub windows_listed_is : asked s (H.windows_listed (device_in s)) ≡ of_table (λ t. answers (window_count t)) (table_read s)
+  unfolding H.windows_listed
+  windows_listed_is = store_is _ _ s (λ t. ap answers (windows_are t))
 
-  -- an entry that is listed, or not
-  module _ {o : Option A} (b : Bool) (x : A) (e : cond b (some x) none ≡ o) where
-    pub listed_entry : b ≡ true → entry_of o ≡ answers x
-    listed_entry t = sym (ap entry_of e) ∙ rw t
+  pub zone_limit_is : asked s (H.zone_limit_read (device_in s)) ≡ of_table (λ t. answers (store_in t).rules.zone_limit) (table_read s)
+  unfolding H.zone_limit_read
+  zone_limit_is = store_is _ _ s (λ t. refl)
 
-    pub no_entry : b ≡ false → Refused (entry_of o) 2
-    no_entry t = record { cause = ConstraintError; is = sym (ap entry_of e) ∙ rw t; number = refl }
+  pub window_limit_is : asked s (H.window_limit_read (device_in s)) ≡ of_table (λ t. answers (store_in t).rules.window_limit) (table_read s)
+  unfolding H.window_limit_read
+  window_limit_is = store_is _ _ s (λ t. refl)
 
-  module _ (s : List ℕ) (a : Answer A) where
-    pub image_refused : is_image s ≡ false → Refused (asked s a) 8
-    image_refused i = record { cause = BadLimits; is = rw i; number = refl }
+  pub database_is : asked s (H.database_read (device_in s)) ≡ of_table (λ t. answers 2) (table_read s)
+  unfolding H.database_read
+  database_is = store_is _ _ s (λ t. refl)
 
-    pub image_read : is_image s ≡ true → asked s a ≡ a
-    image_read i = rw i
+  pub generation_is : asked s (H.generation_read (device_in s)) ≡ of_table (λ t. answers (store_in t).generation) (table_read s)
+  unfolding H.generation_read
+  generation_is = store_is _ _ s (λ t. refl)
 
-  module _ (s : List ℕ) (read : Store → Answer A) where
-    -- a reading that needs the list store
-    abbrev pub of_store : Answer A
-    of_store = asked s (of_lists (device_in s).store read)
+  pub table_empty_is : asked s (H.table_empty (device_in s)) ≡ of_table (λ t. answers (L.table_empty (lists_in t))) (table_read s)
+  unfolding H.table_empty
+  table_empty_is = store_is _ _ s (λ t. refl)
 
-    pub store_refused : (n : ℕ) → n ≡ lists_refusal s → (n ≡ 0 → ⊥) → Refused of_store n
-    unfolding lists_refusal
-    store_refused n e h =
-        by_test (is_image s)
-        (λ i. by_test (has_lists s)
-        (λ m. let z : n ≡ 0 = e ∙ rw (i, m) in absurd (h z))
-        (λ m. record { cause = AttributeNotFound; is = rw (i, m); number = e ∙ rw (i, m) }))
-        (λ i. record { cause = BadLimits; is = rw i; number = e ∙ rw i })
+  -- ## With an argument: what the table answers
 
-    pub store_read : (n : ℕ) → n ≡ lists_refusal s → n ≡ 0 → of_store ≡ read (store_in (table_in s))
-    unfolding lists_refusal
-    store_read n e h =
-        by_test (is_image s)
-        (λ i. by_test (has_lists s)
-        (λ m. rw (i, m))
-        (λ m. let z : n ≡ 6 = e ∙ rw (i, m) in absurd (omega arith)))
-        (λ i. let z : n ≡ 8 = e ∙ rw i in absurd (omega arith))
+  module _ (t : List ℕ) (e : table_read s ≡ answers t) where
+    pub zone_none : (index : ℕ) → zone_listed_in t index ≡ None → asked s (H.zone_at (device_in s) index) ≡ refused ConstraintError
+    unfolding H.zone_at
+    zone_none index h = store_answers _ s t e ∙ ap H.entry_of (sym (zone_listed_lem t index) ∙ ap (zone_listed_of t) h)
 
--- where the store can be read the bytes are an image, and have a table
-module _ (s : List ℕ) (n : ℕ) (e : n ≡ lists_refusal s) (h : n ≡ 0) where
-  readable : is_image s ≡ true
-  unfolding lists_refusal
-  readable = by_test (is_image s) (λ i. i) (λ i. let z : n ≡ 8 = e ∙ rw i in absurd (omega arith))
+    pub zone_some : (index : ℕ) (z : ZoneShown) → zone_listed_in t index ≡ Some z → asked s (H.zone_at (device_in s) index) ≡ answers (zone_in t z)
+    unfolding H.zone_at
+    zone_some index z h = store_answers _ s t e ∙ ap H.entry_of (sym (zone_listed_lem t index) ∙ ap (zone_listed_of t) h)
 
-  pub image_sized : image_size ≤ length s
-  image_sized = (image_is s readable).size
+    pub window_none : (index : ℕ) → window_listed_in t index ≡ None → asked s (H.window_at (device_in s) index) ≡ refused ConstraintError
+    unfolding H.window_at
+    window_none index h = store_answers _ s t e ∙ ap H.entry_of (sym (window_listed_lem t index) ∙ ap window_listed_of h)
 
-  pub table_sized : table_size ≤ length (table_in s)
-  table_sized = omega (arith, table_long s readable)
+    pub window_some : (index : ℕ) (w : DSTOffsetEntry) → window_listed_in t index ≡ Some w → asked s (H.window_at (device_in s) index) ≡ answers (window_of w)
+    unfolding H.window_at
+    window_some index w h = store_answers _ s t e ∙ ap H.entry_of (sym (window_listed_lem t index) ∙ ap window_listed_of h)
+
+    pub active_zone_answers : (now : ℕ) (z : ZoneShown) → z ≡ shown_by t (active_index t now) → asked s (H.active_zone (device_in s) now) ≡ answers (zone_now_in t z)
+    unfolding H.active_zone
+    active_zone_answers now z h = store_answers _ s t e ∙ ap answers (sym (active_shown t now) ∙ ap (zone_now_in t) (sym h))
+
+    pub active_offset_answers : (now : ℕ) → asked s (H.active_offset (device_in s) now) ≡ answers (L.active_offset (lists_in t) now)
+    unfolding H.active_offset
+    active_offset_answers now = store_answers _ s t e
+
+    pub usable_answers : (now : ℕ) → asked s (H.usable (device_in s) now) ≡ answers (L.usable (lists_in t) now)
+    unfolding H.usable
+    usable_answers now = store_answers _ s t e
+
+    pub next_transition_answers : (now : ℕ) → asked s (H.next_transition (device_in s) now) ≡ answers (L.next_transition (lists_in t) now)
+    unfolding H.next_transition
+    next_transition_answers now = store_answers _ s t e
+
+    pub walk_answers : (start : ℕ) → asked s (H.walk_read (device_in s) start) ≡ answers (walk (lists_in t) start)
+    unfolding H.walk_read
+    walk_answers start = store_answers _ s t e
+
+  pub record_is : asked s (H.record_read (device_in s)) ≡ of_table (λ t. answers (record_of (store_in t))) (table_read s)
+  unfolding H.record_read
+  record_is = store_is _ _ s (λ t. refl)
+
+-- ## Local time
+
+-- the lists of the store, out of the table
+pub local_lists : (s : List ℕ) (r : Result (Bor (List ℕ)) Refusal) → is_image s ≡ true → MatchResult r (λ t. table_read s ≡ answers t.now) (λ cause. table_read s ≡ refused cause)
+    → H.lists_of (device_in s).store ≡ option_map (λ t. lists_in t) (option_copied (result_ok r))
+unfolding table_read
+local_lists s (Ok t) i e =
+    by_test (has_lists s)
+    (λ m. let q : answers (table_in s) ≡ answers t.now = rw (i, m) at e in let p : table_in s ≡ t.now = cc in rw (m, p))
+    (λ m. let q : refused AttributeNotFound ≡ answers t.now = rw (i, m) at e in cc)
+local_lists s (Err cause) i e =
+    by_test (has_lists s)
+    (λ m. let q : answers (table_in s) ≡ refused cause = rw (i, m) at e in cc)
+    (λ m. rw m)
+
+-- an answer that is the local time of the clock's reading and of those lists
+pub local_time_is : (s : List ℕ) (tick : ℕ) (u : C.Reading) (o : Option (Bor (List ℕ))) (r : Result (Bor (List ℕ)) Refusal) (a : Answer (Option ℕ)) → is_image s ≡ true
+    → MatchResult r (λ t. table_read s ≡ answers t.now) (λ cause. table_read s ≡ refused cause) → o ≡ result_ok r → u ≡ C.reading (clock_in s) tick
+    → a ≡ M.local_time u (option_map (λ t. lists_in t) (option_copied o)) → asked s (H.read_local_time (device_in s) tick) ≡ a
+local_time_is s tick u o r a i h p q e =
+    rw i (ap (M.local_time (C.reading (clock_in s) tick)) (local_lists s r i h ∙ sym (ap (λ (o : Option (Bor (List ℕ))). option_map (λ t. lists_in t) (option_copied o)) p))
+    ∙ sym (ap (λ (u : C.Reading). M.local_time u (option_map (λ t. lists_in t) (option_copied o))) q) ∙ sym e)
+
+-- ## The mark of a value, and the value or 0
+
+pub mark_is : {A : Type 0} (o : Option A) (b : Bool) → b ≡ is_some o → bool_byte b ≡ mark_of o
+mark_is None b e = rw e
+mark_is (Some x) b e = rw e
+
+pub zero_is : (o : Option ℕ) (n : ℕ) → n ≡ unwrap_or o 0 → n ≡ or_zero o
+zero_is None n e = e
+zero_is (Some x) n e = e

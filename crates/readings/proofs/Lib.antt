@@ -1,4 +1,2 @@
 pub mod Answered
-pub mod Codes
-pub mod Counts
-pub mod Names
+pub mod Copies

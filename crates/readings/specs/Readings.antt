@@ -1,6 +1,5 @@
 -- What is read of the device that an image stands for; a buffer that is not an image is refused with BadLimits.
-use Rattle.std.specs.Prelude.{Bool, List, ℕ, ℤ}
-use Rattle.std.proofs.Math.Option.{Option}
+use Rattle.std.specs.Prelude.{Bool, List, ℕ, ℤ, Option}
 use Rattle.model.specs.Numbers.{granularity_number, source_number}
 use Rattle.model.specs.Lists.{Name, Zone, Window}
 use Rattle.model.specs.Answers.{Answer, answers, TrustedSource}

@@ -1,11 +1,10 @@
 -- Whether a list store can be read.
 use Rattle.std.specs.Prelude.{cond, List, ℕ}
 use Rattle.model.specs.declared.Refusal.TheVariants.{AttributeNotFound, BadLimits}
-use Rattle.model.specs.Numbers.{refusal_number}
-use Rattle.model.specs.Answers.{number_of, done}
-use Rattle.image.specs.Layout.{is_image}
+use Rattle.model.specs.Answers.{Answer, refused, answers}
+use Rattle.image.specs.Layout.{is_image, table_in}
 use Rattle.image.specs.Parts.{has_lists}
 
--- the number of a call that is taken, for an image with a list store; else that of the refusal
-unfoldable pub lists_refusal : List ℕ → ℕ
-lists_refusal s = cond (is_image s) (cond (has_lists s) (number_of done) (refusal_number AttributeNotFound)) (refusal_number BadLimits)
+-- the table of an image with a list store; else the refusal
+unfoldable pub table_read : List ℕ → Answer (List ℕ)
+table_read s = cond (is_image s) (cond (has_lists s) (answers (table_in s)) (refused AttributeNotFound)) (refused BadLimits)

@@ -7,51 +7,32 @@ pub mod entries;
 pub mod store;
 pub mod transitions;
 
-ghost use Rattle.std.specs.Prelude.{◌≡◌};
-ghost use Rattle.model.specs.Maybe.{option_u64};
-ghost use Rattle.model.specs.Output.{mark_of, truth, or_zero};
-ghost use Rattle.readings.specs.There.{lists_refusal};
+ghost use Rattle.std.specs.Prelude.{◌≡◌, MatchResult};
+ghost use Rattle.model.specs.Answers.{answers};
+ghost use Rattle.model.specs.Answers as A;
+ghost use Rattle.model.specs.Numbers.{refusal_number};
+ghost use Rattle.readings.specs.There.{table_read};
 
-use image::codes::{ATTRIBUTE_NOT_FOUND, BAD_LIMITS, TAKEN};
-use image::place::{has_lists, is_image};
-use model::MaybeU64;
+use image::place::{SIZE, TABLE, has_lists, is_image};
+use model::Refusal;
 
-// Whether the lists of an image can be read: a buffer that is not an image comes first, then an image without a list store.
-fn lists_refusal(image: &[u8]) -> u64
-    ensures { result ≡ lists_refusal image.now }
+// The table of an image: a buffer that is not an image is refused first, then an image without a list store.
+#[tactic(auto, unfolding(crate::specs::There::table_read, image::specs::Layout::is_image))]
+fn lists(image: &[u8]) -> Result<&[u8], Refusal>
+    ensures { MatchResult result (λ t. table_read image.now ≡ answers t.now) (λ cause. table_read image.now ≡ A.refused cause) }
 {
     if !is_image(image) {
-        return BAD_LIMITS;
+        return Err(Refusal::BadLimits);
     }
     if !has_lists(image) {
-        return ATTRIBUTE_NOT_FOUND;
+        return Err(Refusal::AttributeNotFound);
     }
-    TAKEN
+    Ok(&image[TABLE..SIZE])
 }
 
-// 1 for true, 0 for false.
-fn bit(b: bool) -> u64
-    ensures { result ≡ truth b }
+// The number of a refusal.
+fn refused(cause: Refusal) -> u64
+    ensures { result ≡ refusal_number cause }
 {
-    if b { 1 } else { 0 }
-}
-
-// 1 where there is a number.
-fn mark(n: MaybeU64) -> u64
-    ensures { result ≡ mark_of (option_u64 n) }
-{
-    match n {
-        MaybeU64::Nothing => 0,
-        MaybeU64::Is(_) => 1,
-    }
-}
-
-// The number, or 0.
-fn or_zero(n: MaybeU64) -> u64
-    ensures { result ≡ or_zero (option_u64 n) }
-{
-    match n {
-        MaybeU64::Nothing => 0,
-        MaybeU64::Is(v) => v,
-    }
+    u8::from(cause) as u64
 }

@@ -1,7 +1,9 @@
 pub mod Front
 pub mod Heads
+pub mod Entries
 pub mod Suffix
 pub mod Sections
+pub mod Records
 pub mod Indexed
 pub mod Meaning
 pub mod Names

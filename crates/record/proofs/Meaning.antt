@@ -1,23 +1,21 @@
 -- What the readers' answers say of the entries that a section or a record reads as.
+use Rattle.std.specs.Prelude.{Option, None, Some, slice_get}
 use mathlib.Core.Bool.{cond}
 use mathlib.Core.List.{List, [], ◌∷◌}
-use mathlib.Core.Option.{Option, none, some}
 use mathlib.Core.Path.{◌≡◌, refl, sym, ap, ◌∙◌}
 use Prim.Native.Nat.{ℕ, zero, suc, ◌+◌, ◌-◌, ◌≤◌, ◌<◌}
 use native.Mathlib.Omega.{arith}
 use borrow.Author.Tests.{eq-eqb, ne_eqb, ltb-true, ltb-false}
 use lib.Dec.{eqb, ltb}
-use lib.ListN.{length, drop, get_or, get_elem?, length-drop}
+use lib.ListN.{length, drop, get_or, length-drop}
 use Rattle.model.specs.Lists.{Zone, Window, Lists}
 use Rattle.model.specs.Bytes.{Front, then, byte, read_zone, read_window, read_all, read_section, whole, nothing_left, read_zones, read_windows, read_record}
-use Rattle.record.specs.declared.SectionRead.TheVariants as S
-use Rattle.record.specs.declared.RecordRead.TheVariants as R
-use Rattle.record.specs.Fronts.{place_of, zones_at, windows_at, section_found, is_whole, zones_whole, windows_whole, windows_found, zones_found, record_at, place_after}
+use Rattle.record.specs.Fronts.{place_of, section_found, section_at, is_whole, zones_whole, windows_whole, windows_found, zones_found, record_at, place_after}
 use Rattle.record.specs.RoundTrip.{request_found, ZonesMean, WindowsMean, RecordMeans}
 use Rattle.model.proofs.Facts.{by_test}
 use Rattle.record.proofs.Front.{byte_at, no_byte}
 use Rattle.record.proofs.Suffix.{Left, Leaves, left_on, left_place, then_leaves, zone_leaves, window_leaves}
-use Rattle.record.proofs.Sections.{counted}
+use Rattle.record.proofs.Sections.{counted, entries}
 use Rattle.record.proofs.Indexed.{place_more}
 
 -- ## A section leaves what stands from some place on
@@ -42,18 +40,18 @@ module _ {A : Type 0} (read_one : List ℕ → Front A) (leaves : Leaves read_on
 
   module _ (s : List ℕ) (at : ℕ) (h : at ≤ length s) where
     by_rest : (xs : List A) (t : List ℕ) → Left s t
-        → cond (eqb (place_of s t) (length s)) (S.Entries (length xs) (place_of s t)) S.Unreadable ≡ request_found (length s) (nothing_left xs t)
+        → cond (eqb (place_of s t) (length s)) (entries (length xs) (place_of s t)) None ≡ request_found (length s) (nothing_left xs t)
     by_rest xs [] l =
         let k : place_of s [] ≡ length s = omega arith in
-        rw (eq-eqb (place_of s []) (length s) k) (ap (λ (n : ℕ). S.Entries (length xs) n) k)
+        rw (eq-eqb (place_of s []) (length s) k) (ap (λ (n : ℕ). entries (length xs) n) k)
     by_rest xs (b ∷ t) l =
         let n : suc (length t) ≡ length s - l.at = ap length l.is ∙ length-drop l.at s in
         let k : place_of s (b ∷ t) ≡ length s → ⊥ = λ q. omega arith in
         rw (ne_eqb (place_of s (b ∷ t)) (length s) k)
 
     request : (f : Front (List A)) → read_section read_one (drop at s) ≡ f → is_whole (length s) (section_found s f) ≡ request_found (length s) (whole f)
-    request none e = refl
-    request (some p) e = by_rest p.0 p.1 (left_on (record { at = at; within = h; is = refl }) (section_leaves (drop at s) p.0 p.1 e))
+    request None e = refl
+    request (Some p) e = by_rest p.0 p.1 (left_on (record { at = at; within = h; is = refl }) (section_leaves (drop at s) p.0 p.1 e))
 
     -- a section at a place, with nothing left over
     pub whole_request : is_whole (length s) (section_found s (read_section read_one (drop at s))) ≡ request_found (length s) (whole (read_section read_one (drop at s)))
@@ -65,17 +63,17 @@ module _ {A : Type 0} (read_one : List ℕ → Front A) (leaves : Leaves read_on
   pub record Section (s : List ℕ) (at : ℕ) (xs : List A) (t : List ℕ) : Type 0 where
     pub there : at < length s
     pub count : get_or s at 0 ≡ length xs
-    pub entries : read_all read_one (length xs) (drop (at + 1) s) ≡ some (xs, t)
+    pub entries : read_all read_one (length xs) (drop (at + 1) s) ≡ Some (xs, t)
 
-  pub section_read : (s : List ℕ) (at : ℕ) (xs : List A) (t : List ℕ) → read_section read_one (drop at s) ≡ some (xs, t) → Section s at xs t
+  pub section_read : (s : List ℕ) (at : ℕ) (xs : List A) (t : List ℕ) → read_section read_one (drop at s) ≡ Some (xs, t) → Section s at xs t
   section_read s at xs t h =
       by_test (ltb at (length s))
       (λ e. let k = ltb-true at (length s) e in
-      let r : read_all read_one (get_or s at 0) (drop (at + 1) s) ≡ some (xs, t) = rw (byte_at s at k) at h in
+      let r : read_all read_one (get_or s at 0) (drop (at + 1) s) ≡ Some (xs, t) = rw (byte_at s at k) at h in
       let c = counted read_one (get_or s at 0) (drop (at + 1) s) xs t r in
       record { there = k; count = sym c; entries = rw c r })
       (λ e. let k = ltb-false at (length s) e in
-      let n : none ≡ some (xs, t) = rw (no_byte s at k) at h in
+      let n : None ≡ Some (xs, t) = rw (no_byte s at k) at h in
       let z : ◌≡◌ {A = ℕ} 0 1 = cc in record { there = absurd (omega arith); count = absurd (omega arith); entries = absurd (omega arith) })
 
   -- the first of some entries, and the others behind it
@@ -84,98 +82,98 @@ module _ {A : Type 0} (read_one : List ℕ → Front A) (leaves : Leaves read_on
     pub tail : List A
     pub next : ℕ
     pub is : xs ≡ head ∷ tail
-    pub read : read_one (drop at s) ≡ some (head, drop next s)
+    pub read : read_one (drop at s) ≡ Some (head, drop next s)
     pub within : next ≤ length s
-    pub rest : read_all read_one n (drop next s) ≡ some (tail, t)
+    pub rest : read_all read_one n (drop next s) ≡ Some (tail, t)
 
-  pub first_read : (s : List ℕ) (at n : ℕ) (xs : List A) (t : List ℕ) → at ≤ length s → read_all read_one (suc n) (drop at s) ≡ some (xs, t) → First s at n xs t
+  pub first_read : (s : List ℕ) (at n : ℕ) (xs : List A) (t : List ℕ) → at ≤ length s → read_all read_one (suc n) (drop at s) ≡ Some (xs, t) → First s at n xs t
   unfolding read_all
   first_read s at n xs t h r = go (read_one (drop at s)) refl r
     where
-      more : (x : A) (u : List ℕ) (k : ℕ) → read_one (drop at s) ≡ some (x, u) → u ≡ drop k s → k ≤ length s → (f : Front (List A)) → read_all read_one n u ≡ f
-          → then f (λ ys s₂. some (x ∷ ys, s₂)) ≡ some (xs, t) → First s at n xs t
-      more x u k e d w none g q = let z : ◌≡◌ {A = ℕ} 0 1 = cc in record { head = x; tail = []; next = k; is = absurd (omega arith); read = absurd (omega arith); within = w; rest = absurd (omega arith) }
-      more x u k e d w (some p) g q =
+      more : (x : A) (u : List ℕ) (k : ℕ) → read_one (drop at s) ≡ Some (x, u) → u ≡ drop k s → k ≤ length s → (f : Front (List A)) → read_all read_one n u ≡ f
+          → then f (λ ys s₂. Some (x ∷ ys, s₂)) ≡ Some (xs, t) → First s at n xs t
+      more x u k e d w None g q = let z : ◌≡◌ {A = ℕ} 0 1 = cc in record { head = x; tail = []; next = k; is = absurd (omega arith); read = absurd (omega arith); within = w; rest = absurd (omega arith) }
+      more x u k e d w (Some p) g q =
           let j : ◌≡◌ {A = List A × List ℕ} (x ∷ p.0, p.1) (xs, t) = cc in
           record {
             head = x;
             tail = p.0;
             next = k;
             is = sym (ap (λ y. y.0) j);
-            read = e ∙ ap (λ (v : List ℕ). some (x, v)) d;
+            read = e ∙ ap (λ (v : List ℕ). Some (x, v)) d;
             within = w;
-            rest = ap (read_all read_one n) (sym d) ∙ g ∙ ap (λ (v : List ℕ). some (p.0, v)) (ap (λ y. y.1) j);
+            rest = ap (read_all read_one n) (sym d) ∙ g ∙ ap (λ (v : List ℕ). Some (p.0, v)) (ap (λ y. y.1) j);
           }
 
-      go : (f : Front A) → read_one (drop at s) ≡ f → then f (λ x s₁. then (read_all read_one n s₁) (λ ys s₂. some (x ∷ ys, s₂))) ≡ some (xs, t) → First s at n xs t
-      go none e q = let z : ◌≡◌ {A = ℕ} 0 1 = cc in absurd (omega arith)
-      go (some p) e q =
+      go : (f : Front A) → read_one (drop at s) ≡ f → then f (λ x s₁. then (read_all read_one n s₁) (λ ys s₂. Some (x ∷ ys, s₂))) ≡ Some (xs, t) → First s at n xs t
+      go None e q = let z : ◌≡◌ {A = ℕ} 0 1 = cc in absurd (omega arith)
+      go (Some p) e q =
           let l = left_place s at p.1 h (leaves (drop at s) p.0 p.1 e) in
           more p.0 p.1 (place_of s p.1) e l.0 l.1 (read_all read_one n p.1) refl q
 
 pub zones_mean : ZonesMean
-unfolding zones_whole zones_at read_zones
+unfolding zones_whole section_at read_zones
 zones_mean s = whole_request read_zone zone_leaves s 0 (omega arith)
 
 pub windows_mean : WindowsMean
-unfolding windows_whole windows_at read_windows
+unfolding windows_whole section_at read_windows
 windows_mean s = whole_request read_window window_leaves s 0 (omega arith)
 
 -- ## A record
 
 -- the second section, read behind the first
 abbrev second : List Zone → Front (List Window) → Option Lists
-second zs f = whole (then f (λ ws s₂. some (record { zones = zs; windows = ws }, s₂)))
+second zs f = whole (then f (λ ws s₂. Some (record { zones = zs; windows = ws }, s₂)))
 
 -- with the first section's zones, the second is whole where the record is
-second_is : (zs : List Zone) (f : Front (List Window)) (l : Lists) → second zs f ≡ some l → (whole f ≡ some l.windows) × (zs ≡ l.zones)
-second_is zs none l h = let z : ◌≡◌ {A = ℕ} 0 1 = cc in (absurd (omega arith), absurd (omega arith))
-second_is zs (some p) l h = go p.1 h
+second_is : (zs : List Zone) (f : Front (List Window)) (l : Lists) → second zs f ≡ Some l → (whole f ≡ Some l.windows) × (zs ≡ l.zones)
+second_is zs None l h = let z : ◌≡◌ {A = ℕ} 0 1 = cc in (absurd (omega arith), absurd (omega arith))
+second_is zs (Some p) l h = go p.1 h
   where
-    go : (t : List ℕ) → nothing_left (record { zones = zs; windows = p.0 }) t ≡ some l → (nothing_left p.0 t ≡ some l.windows) × (zs ≡ l.zones)
-    go [] k = let q : record { zones = zs; windows = p.0 } ≡ l = cc in (ap (λ (x : Lists). some x.windows) q, ap (λ (x : Lists). x.zones) q)
+    go : (t : List ℕ) → nothing_left (record { zones = zs; windows = p.0 }) t ≡ Some l → (nothing_left p.0 t ≡ Some l.windows) × (zs ≡ l.zones)
+    go [] k = let q : record { zones = zs; windows = p.0 } ≡ l = cc in (ap (λ (x : Lists). Some x.windows) q, ap (λ (x : Lists). x.zones) q)
     go (b ∷ t) k = let z : ◌≡◌ {A = ℕ} 0 1 = cc in (absurd (omega arith), absurd (omega arith))
 
-second_none : (zs : List Zone) (f : Front (List Window)) → second zs f ≡ none → whole f ≡ none
-second_none zs none h = refl
-second_none zs (some p) h = go p.1 h
+second_none : (zs : List Zone) (f : Front (List Window)) → second zs f ≡ None → whole f ≡ None
+second_none zs None h = refl
+second_none zs (Some p) h = go p.1 h
   where
-    go : (t : List ℕ) → nothing_left {A = Lists} (record { zones = zs; windows = p.0 }) t ≡ none → nothing_left p.0 t ≡ none
+    go : (t : List ℕ) → nothing_left {A = Lists} (record { zones = zs; windows = p.0 }) t ≡ None → nothing_left p.0 t ≡ None
     go [] k = cc
     go (b ∷ t) k = refl
 
-pub whole_is : {A : Type 0} (f : Front A) (x : A) → whole f ≡ some x → f ≡ some (x, [])
-whole_is none x h = cc
-whole_is {A} (some p) x h = go p.1 h
+pub whole_is : {A : Type 0} (f : Front A) (x : A) → whole f ≡ Some x → f ≡ Some (x, [])
+whole_is None x h = cc
+whole_is {A} (Some p) x h = go p.1 h
   where
-    go : (t : List ℕ) → nothing_left p.0 t ≡ some x → ◌≡◌ {A = Front A} (some (p.0, t)) (some (x, []))
-    go [] k = let q : p.0 ≡ x = cc in ap (λ y. some (y, [])) q
+    go : (t : List ℕ) → nothing_left p.0 t ≡ Some x → ◌≡◌ {A = Front A} (Some (p.0, t)) (Some (x, []))
+    go [] k = let q : p.0 ≡ x = cc in ap (λ y. Some (y, [])) q
     go (b ∷ t) k = cc
 
 module _ (s : List ℕ) where
   -- the answer, once the first section is read
-  answer : (zs : List Zone) (t : List ℕ) → read_section read_zone s ≡ some (zs, t) → (k : ℕ) → t ≡ drop k s → k ≤ length s → place_of s t ≡ k
+  answer : (zs : List Zone) (t : List ℕ) → read_section read_zone s ≡ Some (zs, t) → (k : ℕ) → t ≡ drop k s → k ≤ length s → place_of s t ≡ k
       → record_at s ≡ windows_found (length zs) k (request_found (length s) (whole (read_section read_window t)))
-  unfolding record_at zones_at windows_at
+  unfolding record_at section_at
   answer zs t e k d w q =
       ap (λ (f : Front (List Zone)). zones_found s (section_found s f)) e
       ∙ ap (λ (n : ℕ). windows_found (length zs) n (is_whole (length s) (section_found s (read_section read_window (drop n s))))) q
       ∙ ap (windows_found (length zs) k) (whole_request read_window window_leaves s k w ∙ ap (λ (u : List ℕ). request_found (length s) (whole (read_section read_window u))) (sym d))
 
   by_zones : (f : Front (List Zone)) → read_section read_zone s ≡ f → RecordMeans s
-  unfolding read_record record_at zones_at
-  by_zones none e =
+  unfolding read_record record_at section_at
+  by_zones None e =
       record {
         unreadable = λ h. ap (λ (f : Front (List Zone)). zones_found s (section_found s f)) e;
         readable = λ l h.
-            let q : ◌≡◌ {A = Option Lists} none (some l) = sym (ap (λ (f : Front (List Zone)). whole (then f (λ zs s₁. then (read_section read_window s₁) (λ ws s₂. some (record { zones = zs; windows = ws }, s₂))))) e) ∙ h in
+            let q : ◌≡◌ {A = Option Lists} None (Some l) = sym (ap (λ (f : Front (List Zone)). whole (then f (λ zs s₁. then (read_section read_window s₁) (λ ws s₂. Some (record { zones = zs; windows = ws }, s₂))))) e) ∙ h in
             let z : ◌≡◌ {A = ℕ} 0 1 = cc in absurd (omega arith);
       }
-  by_zones (some p) e =
+  by_zones (Some p) e =
       let l = left_place s 0 p.1 (omega arith) (section_leaves read_zone zone_leaves s p.0 p.1 e) in
       let a = answer p.0 p.1 e (place_of s p.1) l.0 l.1 refl in
       let r : read_record s ≡ second p.0 (read_section read_window p.1)
-      = ap (λ (f : Front (List Zone)). whole (then f (λ zs s₁. then (read_section read_window s₁) (λ ws s₂. some (record { zones = zs; windows = ws }, s₂))))) e in
+      = ap (λ (f : Front (List Zone)). whole (then f (λ zs s₁. then (read_section read_window s₁) (λ ws s₂. Some (record { zones = zs; windows = ws }, s₂))))) e in
       record {
         unreadable = λ h. a ∙ ap (λ (o : Option (List Window)). windows_found (length p.0) (place_of s p.1) (request_found (length s) o)) (second_none p.0 (read_section read_window p.1) (sym r ∙ h));
         readable = λ lists h.
@@ -186,10 +184,10 @@ module _ (s : List ℕ) where
               at = place_of s p.1;
               answer =
                   a ∙ ap (λ (o : Option (List Window)). windows_found (length p.0) (place_of s p.1) (request_found (length s) o)) b.0
-                  ∙ ap (λ (zs : List Zone). R.Sections (length zs) (place_of s p.1) (length lists.windows)) b.1;
+                  ∙ ap (λ (zs : List Zone). Some (record { zones = length zs; at = place_of s p.1; windows = length lists.windows })) b.1;
               zones =
-                  ap (λ (zs : List Zone). read_all read_zone (length zs) (drop 1 s)) (sym b.1) ∙ z.entries ∙ ap (λ (u : List ℕ). some (p.0, u)) l.0
-                  ∙ ap (λ (zs : List Zone). some (zs, drop (place_of s p.1) s)) b.1;
+                  ap (λ (zs : List Zone). read_all read_zone (length zs) (drop 1 s)) (sym b.1) ∙ z.entries ∙ ap (λ (u : List ℕ). Some (p.0, u)) l.0
+                  ∙ ap (λ (zs : List Zone). Some (zs, drop (place_of s p.1) s)) b.1;
               windows = w.entries;
             };
       }
@@ -200,32 +198,32 @@ record_means s = by_zones s (read_section read_zone s) refl
 -- ## Entry `i` of a request
 
 module _ {A : Type 0} (read_one : List ℕ → Front A) (leaves : Leaves read_one) (s : List ℕ) (next : ℕ → Option ℕ)
-    (goes : (at k : ℕ) (x : A) → read_one (drop at s) ≡ some (x, drop k s) → k ≤ length s → next at ≡ some k) where
+    (goes : (at k : ℕ) (x : A) → read_one (drop at s) ≡ Some (x, drop k s) → k ≤ length s → next at ≡ Some k) where
   -- the place of entry `i`, and what is read there
   pub record Indexed (xs : List A) (i : ℕ) : Type 0 where
     pub at : ℕ
     pub entry : A
     pub left : List ℕ
-    pub place : place_after next i ≡ some at
-    pub read : read_one (drop at s) ≡ some (entry, left)
-    pub is : get_elem? xs i ≡ some entry
+    pub place : place_after next i ≡ Some at
+    pub read : read_one (drop at s) ≡ Some (entry, left)
+    pub is : slice_get xs i ≡ Some entry
 
   -- from entry `k` at `at`, so many entries on
-  from : (j k at : ℕ) (n : ℕ) (xs : List A) (t : List ℕ) → at ≤ length s → place_after next k ≡ some at → read_all read_one n (drop at s) ≡ some (xs, t) → j < n → n ≡ length xs
-      → (e : A) × (a : ℕ) × (u : List ℕ) × (place_after next (k + j) ≡ some a) × (read_one (drop a s) ≡ some (e, u)) × (get_elem? xs j ≡ some e)
+  from : (j k at : ℕ) (n : ℕ) (xs : List A) (t : List ℕ) → at ≤ length s → place_after next k ≡ Some at → read_all read_one n (drop at s) ≡ Some (xs, t) → j < n → n ≡ length xs
+      → (e : A) × (a : ℕ) × (u : List ℕ) × (place_after next (k + j) ≡ Some a) × (read_one (drop a s) ≡ Some (e, u)) × (slice_get xs j ≡ Some e)
   from j k at zero xs t h p r l c = absurd (omega arith)
   from zero k at (suc n) xs t h p r l c =
       let f = first_read read_one leaves s at n xs t h r in
       let z : k + 0 ≡ k = omega arith in
-      (f.head, at, drop f.next s, ap (place_after next) z ∙ p, f.read, ap (λ (ys : List A). get_elem? ys 0) f.is)
+      (f.head, at, drop f.next s, ap (place_after next) z ∙ p, f.read, ap (λ (ys : List A). slice_get ys 0) f.is)
   from (suc j) k at (suc n) xs t h p r l c =
       let f = first_read read_one leaves s at n xs t h r in
       let m = place_more next k at p ∙ goes at f.next f.head f.read f.within in
       let g = from j (k + 1) f.next n f.tail t f.within m f.rest (omega arith) (omega (arith, ap length f.is)) in
       let z : k + suc j ≡ k + 1 + j = omega arith in
-      (g.0, g.1, g.2, ap (place_after next) z ∙ g.3, g.4, ap (λ (ys : List A). get_elem? ys (suc j)) f.is ∙ g.5)
+      (g.0, g.1, g.2, ap (place_after next) z ∙ g.3, g.4, ap (λ (ys : List A). slice_get ys (suc j)) f.is ∙ g.5)
 
-  pub indexed : (xs : List A) → read_section read_one s ≡ some (xs, []) → (i : ℕ) → i < length xs → Indexed xs i
+  pub indexed : (xs : List A) → read_section read_one s ≡ Some (xs, []) → (i : ℕ) → i < length xs → Indexed xs i
   unfolding place_after
   indexed xs e i l =
       let c = section_read read_one leaves s 0 xs [] e in

@@ -1,7 +1,7 @@
 -- A reader leaves what stands from some place on.
+use Rattle.std.specs.Prelude.{Option, None, Some}
 use mathlib.Core.Bool.{Bool, true, false}
 use mathlib.Core.List.{List, [], ◌∷◌}
-use mathlib.Core.Option.{Option, none, some}
 use mathlib.Core.Path.{◌≡◌, refl, sym, ap, ◌∙◌}
 use Prim.Native.Nat.{ℕ, zero, suc, ◌+◌, ◌-◌, ◌≤◌}
 use native.Mathlib.Omega.{arith}
@@ -26,23 +26,23 @@ left_on {s} {t} {u} a b =
     let w : b.at ≤ length s - a.at = omega (arith, b.within, ap length a.is, length-drop a.at s) in
     record { at = a.at + b.at; within = omega (arith, a.within, w); is = b.is ∙ ap (drop b.at) a.is ∙ drop-drop b.at a.at s }
 
-no : {A : Type 0} {C : Type 0} (a : A) → ◌≡◌ {A = Option A} none (some a) → C
+no : {A : Type 0} {C : Type 0} (a : A) → ◌≡◌ {A = Option A} None (Some a) → C
 no a h = let z : ◌≡◌ {A = ℕ} 0 1 = cc in absurd (omega arith)
 
-snd_of : {A : Type 0} (a b : A) (s t : List ℕ) → ◌≡◌ {A = Front A} (some (a, s)) (some (b, t)) → s ≡ t
+snd_of : {A : Type 0} (a b : A) (s t : List ℕ) → ◌≡◌ {A = Front A} (Some (a, s)) (Some (b, t)) → s ≡ t
 snd_of {A} a b s t h = let q : ◌≡◌ {A = A × List ℕ} (a, s) (b, t) = cc in ap (λ p. p.1) q
 
 -- a reader that leaves what stands from some place on
 abbrev pub Leaves : {A : Type 0} → (List ℕ → Front A) → Type 0
-Leaves {A} reader = (s : List ℕ) (a : A) (t : List ℕ) → reader s ≡ some (a, t) → Left s t
+Leaves {A} reader = (s : List ℕ) (a : A) (t : List ℕ) → reader s ≡ Some (a, t) → Left s t
 
 take_leaves : (n : ℕ) → Leaves (take_bytes n)
 unfolding take_bytes
 take_leaves n s a t h =
     by_test (leb n (length s))
-    (λ e. let k : ◌≡◌ {A = Front (List ℕ)} (some (take n s, drop n s)) (some (a, t)) = rw e at h in
+    (λ e. let k : ◌≡◌ {A = Front (List ℕ)} (Some (take n s, drop n s)) (Some (a, t)) = rw e at h in
     record { at = n; within = leb-true n (length s) e; is = sym (snd_of (take n s) a (drop n s) t k) })
-    (λ e. let k : ◌≡◌ {A = Front (List ℕ)} none (some (a, t)) = rw e at h in no (a, t) k)
+    (λ e. let k : ◌≡◌ {A = Front (List ℕ)} None (Some (a, t)) = rw e at h in no (a, t) k)
 
 byte_leaves : Leaves byte
 byte_leaves [] a t h = no (a, t) h
@@ -53,9 +53,9 @@ pub then_leaves : {A B : Type 0} (first : List ℕ → Front A) (next : A → Li
     → Leaves (λ s. then (first s) next)
 then_leaves {A} {B} first next f g s b t h = go (first s) refl h
   where
-    go : (x : Front A) → first s ≡ x → then x next ≡ some (b, t) → Left s t
-    go none e k = no (b, t) k
-    go (some p) e k = left_on (f s p.0 p.1 e) (g p.0 p.1 b t k)
+    go : (x : Front A) → first s ≡ x → then x next ≡ Some (b, t) → Left s t
+    go None e k = no (b, t) k
+    go (Some p) e k = left_on (f s p.0 p.1 e) (g p.0 p.1 b t k)
 
 module _ {A B : Type 0} (tail : ℕ → List ℕ → Front A) (make : ℤ → ℕ → A → B) (leaves : (m : ℕ) → Leaves (tail m)) where
   pub entry_leaves : Leaves (read_entry tail make)
@@ -69,21 +69,21 @@ module _ {A B : Type 0} (tail : ℕ → List ℕ → Front A) (make : ℤ → �
 
 named_leaves : (w : Bool) (n : Name) → Leaves (named w n)
 unfolding named
-named_leaves true n s a t h = let e = snd_of (some n) a s t h in record { at = 0; within = omega arith; is = sym e }
+named_leaves true n s a t h = let e = snd_of (Some n) a s t h in record { at = 0; within = omega arith; is = sym e }
 named_leaves false n s a t h = no (a, t) h
 
 name_leaves : (m : ℕ) → Leaves (read_name m)
 unfolding read_name
-name_leaves zero s a t h = let e = snd_of none a s t h in record { at = 0; within = omega arith; is = sym e }
+name_leaves zero s a t h = let e = snd_of None a s t h in record { at = 0; within = omega arith; is = sym e }
 name_leaves (suc zero) s a t h =
     then_leaves byte _ byte_leaves (λ n. then_leaves (take_bytes n) _ (take_leaves n) (λ name. named_leaves (well_formed name) name)) s a t h
 name_leaves (suc (suc m)) s a t h = no (a, t) h
 
 until_leaves : (m : ℕ) → Leaves (read_until m)
 unfolding read_until
-until_leaves zero s a t h = let e = snd_of none a s t h in record { at = 0; within = omega arith; is = sym e }
+until_leaves zero s a t h = let e = snd_of None a s t h in record { at = 0; within = omega arith; is = sym e }
 until_leaves (suc zero) s a t h =
-    then_leaves (take_bytes 8) _ (take_leaves 8) (λ e s b t h. let q = snd_of (some (number e)) b s t h in record { at = 0; within = omega arith; is = sym q }) s a t h
+    then_leaves (take_bytes 8) _ (take_leaves 8) (λ e s b t h. let q = snd_of (Some (number e)) b s t h in record { at = 0; within = omega arith; is = sym q }) s a t h
 until_leaves (suc (suc m)) s a t h = no (a, t) h
 
 pub zone_leaves : Leaves read_zone

@@ -1,25 +1,14 @@
 -- What a reader finds at a place of some bytes, and where it goes on.
-use Rattle.std.specs.Prelude.{cond, List, ℕ, zero, suc, ◌+◌, ◌-◌, eqb, ltb, length, take, drop, get_or}
-use Rattle.std.proofs.Math.Option.{Option, none, some}
+use Rattle.std.specs.Prelude.{◌&&◌, cond, List, ℕ, zero, suc, ◌+◌, ◌-◌, eqb, ltb, length, take, drop, get_or, Option, None, Some, option_map, option_and_then}
 use Rattle.model.specs.Lists.{Name, Zone, Window}
-use Rattle.model.specs.Maybe.{maybe_u64}
 use Rattle.model.specs.Bytes.{Front, number, signed, read_zone, read_window, read_section}
-use Rattle.word.specs.Place.{fits_at}
-use Rattle.record.specs.declared.read.Head.{Head}
-use Rattle.record.specs.declared.read.Head.TheVariants as H
+use Rattle.word.specs.Place.{fits_at, text_at}
+use Rattle.record.specs.declared.entry.Head.{Head}
 use Rattle.record.specs.declared.NamePlace.{NamePlace}
-use Rattle.record.specs.declared.NamePlace.TheVariants as N
 use Rattle.record.specs.declared.TimeZoneRead.{TimeZoneRead}
-use Rattle.record.specs.declared.TimeZoneRead.TheVariants as Z
 use Rattle.record.specs.declared.DSTOffsetRead.{DSTOffsetRead}
-use Rattle.record.specs.declared.DSTOffsetRead.TheVariants as W
 use Rattle.record.specs.declared.SectionRead.{SectionRead}
-use Rattle.record.specs.declared.SectionRead.TheVariants as S
-use Rattle.record.specs.declared.section.SectionCount.{SectionCount}
-use Rattle.record.specs.declared.section.SectionCount.TheVariants as C
-use Rattle.record.specs.declared.section.SectionTaken.{SectionTaken}
 use Rattle.record.specs.declared.RecordRead.{RecordRead}
-use Rattle.record.specs.declared.RecordRead.TheVariants as R
 
 -- where a reader goes on: what is left of `s` after it
 abbrev pub place_of : List ℕ → List ℕ → ℕ
@@ -28,122 +17,117 @@ place_of s left = length s - length left
 -- ## An entry at a place
 
 -- the offset, the start and the mark at `at`, where 13 bytes are there
-unfoldable pub head_at : List ℕ → ℕ → Head
+unfoldable pub head_at : List ℕ → ℕ → Option Head
 head_at s at =
-    cond (fits_at s at 13) (H.Is (signed (number (take 4 (drop at s)))) (number (take 8 (drop (at + 4) s))) (get_or s (at + 12) 0)) H.Missing
+    cond (fits_at s at 13)
+    (Some (record { offset = signed (number (take 4 (drop at s))); start = number (take 8 (drop (at + 4) s)); mark = get_or s (at + 12) 0 }))
+    None
+
+-- the name whose length byte stands at `at`, where it is there and is well-formed
+unfoldable pub name_there : List ℕ → ℕ → Option NamePlace
+name_there s at = cond (ltb at (length s) && text_at s (at + 1) (get_or s at 0)) (Some (record { at = at + 1; len = get_or s at 0 })) None
 
 -- a name of a zone at `at` stands behind offset, start, mark and length byte
-abbrev pub name_place : ℕ → Option Name → NamePlace
-name_place at none = N.Nothing
-name_place at (some n) = N.At (at + 14) (length n)
+abbrev pub name_place : ℕ → Option Name → Option NamePlace
+name_place at None = None
+name_place at (Some n) = Some (record { at = at + 14; len = length n })
 
-abbrev pub zone_found : List ℕ → ℕ → Front Zone → TimeZoneRead
-zone_found s at none = Z.Unreadable
-zone_found s at (some f) = Z.Entry f.0.offset f.0.start (name_place at f.0.name) (place_of s f.1)
+abbrev pub zone_found : List ℕ → ℕ → Front Zone → Option TimeZoneRead
+zone_found s at None = None
+zone_found s at (Some f) = Some (record { offset = f.0.offset; valid_at = f.0.start; name = name_place at f.0.name; next = place_of s f.1 })
 
 -- the zone at `at`
-unfoldable pub zone_at : List ℕ → ℕ → TimeZoneRead
+unfoldable pub zone_at : List ℕ → ℕ → Option TimeZoneRead
 zone_at s at = zone_found s at (read_zone (drop at s))
 
-abbrev pub window_found : List ℕ → Front Window → DSTOffsetRead
-window_found s none = W.Unreadable
-window_found s (some f) = W.Entry f.0.offset f.0.start (maybe_u64 f.0.until) (place_of s f.1)
+abbrev pub window_found : List ℕ → Front Window → Option DSTOffsetRead
+window_found s None = None
+window_found s (Some f) = Some (record { offset = f.0.offset; valid_starting = f.0.start; valid_until = f.0.until; next = place_of s f.1 })
 
 -- the window at `at`
-unfoldable pub window_at : List ℕ → ℕ → DSTOffsetRead
+unfoldable pub window_at : List ℕ → ℕ → Option DSTOffsetRead
 window_at s at = window_found s (read_window (drop at s))
 
 -- ## A section at a place
 
 module _ {A : Type 0} where
-  abbrev pub section_found : List ℕ → Front (List A) → SectionRead
-  section_found s none = S.Unreadable
-  section_found s (some f) = S.Entries (length f.0) (place_of s f.1)
+  abbrev pub section_found : List ℕ → Front (List A) → Option SectionRead
+  section_found s None = None
+  section_found s (Some f) = Some (record { count = length f.0; next = place_of s f.1 })
+
+  -- the section at `at`, of entries that are read so
+  unfoldable pub section_at : (List ℕ → Front A) → List ℕ → ℕ → Option SectionRead
+  section_at read_one s at = section_found s (read_section read_one (drop at s))
 
 -- the section of zones at `at`, and of windows
-unfoldable pub zones_at : List ℕ → ℕ → SectionRead
-zones_at s at = section_found s (read_section read_zone (drop at s))
+abbrev pub zones_at : List ℕ → ℕ → Option SectionRead
+zones_at s at = section_at read_zone s at
 
-unfoldable pub windows_at : List ℕ → ℕ → SectionRead
-windows_at s at = section_found s (read_section read_window (drop at s))
+abbrev pub windows_at : List ℕ → ℕ → Option SectionRead
+windows_at s at = section_at read_window s at
 
--- a section as a reader at `at` takes it: it goes on after the section, and stays where nothing is readable
-abbrev pub taken_from : ℕ → SectionRead → SectionTaken
-taken_from at S.Unreadable = record { at = at; found = C.Unreadable }
-taken_from at (S.Entries count next) = record { at = next; found = C.Entries count }
+-- how many entries a reader found
+abbrev pub count_of : Option SectionRead → Option ℕ
+count_of r = option_map (λ x. x.count) r
 
-unfoldable pub zones_taken : List ℕ → ℕ → SectionTaken
-zones_taken s at = taken_from at (zones_at s at)
-
-unfoldable pub windows_taken : List ℕ → ℕ → SectionTaken
-windows_taken s at = taken_from at (windows_at s at)
-
--- what a reader found that now stands at `at`
-abbrev pub read_before : ℕ → SectionCount → SectionRead
-read_before at C.Unreadable = S.Unreadable
-read_before at (C.Entries count) = S.Entries count at
+-- a reader at `at` goes on after the section that it found, and stays where nothing is readable
+abbrev pub moved_to : ℕ → Option SectionRead → ℕ
+moved_to at None = at
+moved_to at (Some x) = x.next
 
 -- a section after which nothing is left over of so many bytes
-abbrev pub is_whole : ℕ → SectionRead → SectionRead
-is_whole len S.Unreadable = S.Unreadable
-is_whole len (S.Entries count next) = cond (eqb next len) (S.Entries count next) S.Unreadable
+abbrev pub is_whole : ℕ → Option SectionRead → Option SectionRead
+is_whole len None = None
+is_whole len (Some x) = cond (eqb x.next len) (Some x) None
 
 -- a request: one section from the first byte to the last
-unfoldable pub zones_whole : List ℕ → SectionRead
+unfoldable pub zones_whole : List ℕ → Option SectionRead
 zones_whole s = is_whole (length s) (zones_at s 0)
 
-unfoldable pub windows_whole : List ℕ → SectionRead
+unfoldable pub windows_whole : List ℕ → Option SectionRead
 windows_whole s = is_whole (length s) (windows_at s 0)
 
 -- ## A record
 
-abbrev pub windows_found : ℕ → ℕ → SectionRead → RecordRead
-windows_found zones at S.Unreadable = R.Unreadable
-windows_found zones at (S.Entries windows next) = R.Sections zones at windows
+abbrev pub windows_found : ℕ → ℕ → Option SectionRead → Option RecordRead
+windows_found zones at None = None
+windows_found zones at (Some x) = Some (record { zones = zones; at = at; windows = x.count })
 
-abbrev pub zones_found : List ℕ → SectionRead → RecordRead
-zones_found s S.Unreadable = R.Unreadable
-zones_found s (S.Entries zones next) = windows_found zones next (is_whole (length s) (windows_at s next))
+abbrev pub zones_found : List ℕ → Option SectionRead → Option RecordRead
+zones_found s None = None
+zones_found s (Some x) = windows_found x.count x.next (is_whole (length s) (windows_at s x.next))
 
 -- both sections, the place of the second, and nothing after them
-unfoldable pub record_at : List ℕ → RecordRead
+unfoldable pub record_at : List ℕ → Option RecordRead
 record_at s = zones_found s (zones_at s 0)
-
--- a section of zones that a reader found before `at`, and the section of windows that it read there
-abbrev pub record_before : SectionCount → ℕ → SectionRead → RecordRead
-record_before C.Unreadable at windows = R.Unreadable
-record_before (C.Entries zones) at windows = windows_found zones at windows
 
 -- ## Entry `i` of the section at the front
 
 abbrev pub onward : (ℕ → Option ℕ) → Option ℕ → Option ℕ
-onward next none = none
-onward next (some at) = next at
+onward next place = option_and_then next place
 
 -- the place after so many entries, from the first on; `next` gives the place after the entry at a place, none where it is unreadable
 unfoldable pub place_after : (ℕ → Option ℕ) → ℕ → Option ℕ
-place_after next zero = some 1
+place_after next zero = Some 1
 place_after next (suc i) = onward next (place_after next i)
 
-abbrev pub next_zone : TimeZoneRead → Option ℕ
-next_zone Z.Unreadable = none
-next_zone (Z.Entry o t n next) = some next
+module _ {E : Type 0} (found_at : List ℕ → ℕ → Option E) (next_of : E → ℕ) where
+  -- the place after the entry at a place
+  abbrev pub next_at : List ℕ → ℕ → Option ℕ
+  next_at s at = option_map next_of (found_at s at)
 
-abbrev pub zone_from : List ℕ → Option ℕ → TimeZoneRead
-zone_from s none = Z.Unreadable
-zone_from s (some at) = zone_at s at
+  -- the entry of an index below the count; else unreadable
+  unfoldable pub section_entry : List ℕ → ℕ → Option E
+  section_entry s i = cond (ltb i (get_or s 0 0)) (option_and_then (found_at s) (place_after (next_at s) i)) None
 
--- the zone of an index below the count; else unreadable
-unfoldable pub section_zone : List ℕ → ℕ → TimeZoneRead
-section_zone s i = cond (ltb i (get_or s 0 0)) (zone_from s (place_after (λ at. next_zone (zone_at s at)) i)) Z.Unreadable
+abbrev pub next_zone : TimeZoneRead → ℕ
+next_zone z = z.next
 
-abbrev pub next_window : DSTOffsetRead → Option ℕ
-next_window W.Unreadable = none
-next_window (W.Entry o t u next) = some next
+abbrev pub section_zone : List ℕ → ℕ → Option TimeZoneRead
+section_zone s i = section_entry zone_at next_zone s i
 
-abbrev pub window_from : List ℕ → Option ℕ → DSTOffsetRead
-window_from s none = W.Unreadable
-window_from s (some at) = window_at s at
+abbrev pub next_window : DSTOffsetRead → ℕ
+next_window w = w.next
 
-unfoldable pub section_window : List ℕ → ℕ → DSTOffsetRead
-section_window s i = cond (ltb i (get_or s 0 0)) (window_from s (place_after (λ at. next_window (window_at s at)) i)) W.Unreadable
+abbrev pub section_window : List ℕ → ℕ → Option DSTOffsetRead
+section_window s i = section_entry window_at next_window s i

@@ -1,49 +1,61 @@
 // The bytes of the lists: sections read at a place of a slice, and the buffer of a written record.
 #![tactic(auto)]
 
+pub mod entry;
 pub mod read;
 pub mod section;
 
-use model::MaybeU64;
-
 // Where a name stands in the bytes that were read.
 #[derive(Clone, Copy)]
-pub enum NamePlace {
-    Nothing,
-    At(usize, usize),
+pub struct NamePlace {
+    pub at: usize,
+    pub len: usize,
 }
 
 // A zone that was read, and the place after it.
 #[derive(Clone, Copy)]
-pub enum TimeZoneRead {
-    Unreadable,
-    Entry(i32, u64, NamePlace, usize),
+pub struct TimeZoneRead {
+    pub offset: i32,
+    pub valid_at: u64,
+    pub name: Option<NamePlace>,
+    pub next: usize,
 }
 
 // A window that was read, and the place after it.
 #[derive(Clone, Copy)]
-pub enum DSTOffsetRead {
-    Unreadable,
-    Entry(i32, u64, MaybeU64, usize),
+pub struct DSTOffsetRead {
+    pub offset: i32,
+    pub valid_starting: u64,
+    pub valid_until: Option<u64>,
+    pub next: usize,
 }
 
 // How many entries a section has, and the place after it.
 #[derive(Clone, Copy)]
-pub enum SectionRead {
-    Unreadable,
-    Entries(u8, usize),
+pub struct SectionRead {
+    pub count: u8,
+    pub next: usize,
 }
 
 // How many zones a record has, the place of its second section, and how many windows.
 #[derive(Clone, Copy)]
-pub enum RecordRead {
-    Unreadable,
-    Sections(u8, usize, u8),
+pub struct RecordRead {
+    pub zones: u8,
+    pub at: usize,
+    pub windows: u8,
 }
 
-// A record: its bytes, zeros after them, and how many they are.
+// A record: its bytes, zeros after them, and how many they are; a fixed buffer, since there is no heap.
 #[derive(Clone, Copy)]
 pub struct Record {
     pub bytes: [u8; 962],
     pub length: usize,
+}
+
+impl Record {
+    // A buffer that no record was written to.
+    pub const BLANK: Record = Record {
+        bytes: [0; 962],
+        length: 0,
+    };
 }

@@ -1,82 +1,69 @@
-// A reader of sections: it keeps the bytes lent to it and its position in them.
-ghost use Rattle.std.specs.Prelude.{◌≡◌};
-ghost use Rattle.record.specs.Fronts.{taken_from, zones_taken, windows_taken};
+// Sections of entries, and a reader of one after another.
+ghost use Rattle.std.specs.Prelude.{◌≡◌, length, nat_eq};
+ghost use Rattle.record.specs.Fronts.{section_at, section_entry, count_of, moved_to};
 
 use crate::SectionRead;
-use crate::read::{dst_offsets_at, time_zones_at};
+use crate::entry::Entry;
 
-// The bytes, and the place of the next section.
+// The section at `at`.
+pub fn section_at<E: Entry>(s: &[u8], at: usize) -> Option<SectionRead>
+    ensures { result ≡ section_at E.read_one s.now at }
+{
+    let count = *s.get(at)?;
+    let mut next = at + 1;
+    for index in 0..count {
+        let entry = E::read_at(s, next)?;
+        next = entry.next();
+    }
+    Some(SectionRead { count, next })
+}
+
+// Entry i of the section at the front.
+pub fn nth<E: Entry>(s: &[u8], i: usize) -> Option<E>
+    ensures { result ≡ section_entry E.found_at E.next_of s.now i }
+{
+    let count = *s.first()?;
+    if count as usize <= i {
+        return None;
+    }
+    let mut at = 1;
+    for index in 0..i {
+        let before = E::read_at(s, at)?;
+        at = before.next();
+    }
+    E::read_at(s, at)
+}
+
+// The bytes lent to a reader, and the place of the next section.
 #[derive(Clone, Copy)]
 pub struct SectionReader<'a> {
     pub src: &'a [u8],
     pub at: usize,
 }
 
-// How many entries a section has.
-#[derive(Clone, Copy)]
-pub enum SectionCount {
-    Unreadable,
-    Entries(u8),
-}
-
-// What a step found, and where the reader stands after it: past the section, or where it stood.
-#[derive(Clone, Copy)]
-pub struct SectionTaken {
-    pub at: usize,
-    pub found: SectionCount,
-}
-
-// A section read at `at`, as a reader takes it.
-fn taken(r: SectionRead, at: usize) -> SectionTaken
-    ensures { result ≡ taken_from at r }
-{
-    match r {
-        SectionRead::Unreadable => SectionTaken {
-            at,
-            found: SectionCount::Unreadable,
-        },
-        SectionRead::Entries(count, next) => SectionTaken {
-            at: next,
-            found: SectionCount::Entries(count),
-        },
+impl<'a> SectionReader<'a> {
+    // A reader that stands at the first byte.
+    pub fn new(src: &'a [u8]) -> SectionReader<'a>
+        ensures { (result.src ≡ src.entry) × (result.at ≡ 0) }
+    {
+        SectionReader { src, at: 0 }
     }
-}
 
-// The section of zones at `at`, taken.
-fn time_zones_taken(s: &[u8], at: usize) -> SectionTaken
-    ensures { result ≡ zones_taken s.now at }
-{
-    taken(time_zones_at(s, at), at)
-}
+    // Takes the section at the reader's position: how many entries it has. The reader goes on after it, and stays where nothing is readable.
+    pub fn take<E: Entry>(&mut self) -> Option<u8>
+        ensures found { result ≡ count_of (section_at E.read_one self.old.src.now self.old.at) }
+        ensures same { self.new.src ≡ self.old.src }
+        ensures moved { self.new.at ≡ moved_to self.old.at (section_at E.read_one self.old.src.now self.old.at) }
+    {
+        let section = section_at::<E>(self.src, self.at)?;
+        self.at = section.next;
+        Some(section.count)
+    }
 
-// The section of windows at `at`, taken.
-fn dst_offsets_taken(s: &[u8], at: usize) -> SectionTaken
-    ensures { result ≡ windows_taken s.now at }
-{
-    taken(dst_offsets_at(s, at), at)
-}
-
-// A reader that stands at the first byte.
-pub fn new<'a>(src: &'a [u8]) -> SectionReader<'a>
-    ensures { (result.src ≡ src.entry) × (result.at ≡ 0) }
-{
-    SectionReader { src, at: 0 }
-}
-
-// Takes the section of zones at the reader's position.
-pub fn take_time_zones<'s, 'a>(r: &'s mut SectionReader<'a>) -> SectionCount
-    ensures { (result ≡ (zones_taken r.old.src.now r.old.at).found) × (r.new.src ≡ r.old.src) × (r.new.at ≡ (zones_taken r.old.src.now r.old.at).at) }
-{
-    let t = time_zones_taken(r.src, r.at);
-    r.at = t.at;
-    t.found
-}
-
-// Takes the section of windows at the reader's position.
-pub fn take_dst_offsets<'s, 'a>(r: &'s mut SectionReader<'a>) -> SectionCount
-    ensures { (result ≡ (windows_taken r.old.src.now r.old.at).found) × (r.new.src ≡ r.old.src) × (r.new.at ≡ (windows_taken r.old.src.now r.old.at).at) }
-{
-    let t = dst_offsets_taken(r.src, r.at);
-    r.at = t.at;
-    t.found
+    // Whether nothing is left over.
+    pub fn ended(&self) -> bool
+        ensures { result ≡ nat_eq self.now.at (length self.now.src.now) }
+    {
+        self.at == self.src.len()
+    }
 }

@@ -1,7 +1,7 @@
 -- What a run answers, by its causes; and demand 3 about what it answered.
+use Rattle.std.specs.Prelude.{Option, None, Some, Result, Ok, Err, is_some}
 use mathlib.Core.Bool.{true, false}
 use mathlib.Core.List.{List}
-use mathlib.Core.Option.{Option, none, some}
 use mathlib.Core.Path.{◌≡◌, refl, sym, ap, ◌∙◌}
 use Prim.Native.Nat.{ℕ, suc, ◌*◌, ◌≤◌, ◌<◌}
 use native.Mathlib.Omega.{arith}
@@ -11,7 +11,6 @@ use lib.Seq.{take-append_seam, take_at}
 use Rattle.model.specs.declared.Refusal.{Refusal}
 use Rattle.model.specs.declared.Refusal.TheVariants.{Unreadable, BadLimits, NoSpace}
 use Rattle.model.specs.Answers.{Answer, refused, answers, number_of}
-use Rattle.model.specs.Basics.{is_some}
 use Rattle.model.specs.History.{Call, lists_after}
 use Rattle.model.specs.Lists.{Lists}
 use Rattle.model.specs.Lookups as L
@@ -22,21 +21,20 @@ use Rattle.model.specs.Walk.{walk}
 use Rattle.model.proofs.Demand3.{demand3}
 use Rattle.model.proofs.Facts.{by_test}
 use Rattle.history.specs.Calls.{read_calls}
-use Rattle.rules.specs.declared.Verdict.{Verdict}
-use Rattle.rules.specs.declared.Verdict.TheVariants as Said
 use Rattle.table.specs.Layout.{table_size, store_in, new_table}
 use Rattle.table.specs.Left.{new_said, new_left}
 use Rattle.table.proofs.Made.{not_allowed, is_made, none_made, one_made}
+use Rattle.replay.specs.declared.told.Outcome.{Outcome}
 use Rattle.replay.specs.Replays.{Replayed, answers_of, new_store, name_told, moments_told, replayed, Lent, told, lent_after}
 use Rattle.replay.specs.Claim.{Demand3Answered, ReplayClaim}
-use Rattle.replay.specs.Tables.{answered}
+use Rattle.replay.specs.Tables.{room_for, answered}
 use Rattle.word.proofs.Writes.{length_numbers}
 
 -- ## By the limits and the history
 
-none_read : (o : Option (List Call)) → is_some o ≡ false → o ≡ none
-none_read none h = refl
-none_read (some calls) h = let z : true ≡ false = h in let k : ◌≡◌ {A = ℕ} 0 1 = cc in absurd (omega arith)
+none_read : (o : Option (List Call)) → is_some o ≡ false → o ≡ None
+none_read None h = refl
+none_read (Some calls) h = let z : true ≡ false = h in let k : ◌≡◌ {A = ℕ} 0 1 = cc in absurd (omega arith)
 
 module _ (r : Rules) (history : List ℕ) (start at m n o : ℕ) where
   pub replayed_bad : allowed r ≡ false → replayed r history start at m n o ≡ refused BadLimits
@@ -47,7 +45,7 @@ module _ (r : Rules) (history : List ℕ) (start at m n o : ℕ) where
   unfolding replayed
   replayed_unreadable a h = rw (a, none_read (read_calls history) h)
 
-  pub replayed_run : allowed r ≡ true → (calls : List Call) → read_calls history ≡ some calls → (t : List ℕ) → store_in t ≡ store_from (new_store r) calls
+  pub replayed_run : allowed r ≡ true → (calls : List Call) → read_calls history ≡ Some calls → (t : List ℕ) → store_in t ≡ store_from (new_store r) calls
       → replayed r history start at m n o ≡ answered t start at m n o
   unfolding replayed answered
   replayed_run a calls e t q =
@@ -56,28 +54,37 @@ module _ (r : Rules) (history : List ℕ) (start at m n o : ℕ) where
 
 -- ## By what `new` said of the limits, in a table of enough bytes
 
-module _ (s : List ℕ) (r : Rules) (h : table_size ≤ length s) (v : Verdict) (e : v ≡ new_said s r) where
-  pub limits_good : v ≡ Said.Accepted → allowed r ≡ true
+module _ (s : List ℕ) (r : Rules) (h : table_size ≤ length s) (v : Result (Unit {0}) Refusal) (e : v ≡ new_said s r) where
+  pub limits_good : v ≡ (Ok tt) → allowed r ≡ true
   limits_good k =
       by_test (allowed r) (λ t. t)
       (λ t.
-      let q : v ≡ Said.TurnedDown BadLimits = e ∙ sym (none_made s r (not_allowed s r t)).0 in
+      let q : v ≡ Err BadLimits = e ∙ sym (none_made s r (not_allowed s r t)).0 in
       let z : ◌≡◌ {A = ℕ} 0 1 = cc in absurd (omega arith))
 
-  pub limits_bad : (cause : Refusal) → v ≡ Said.TurnedDown cause → (allowed r ≡ false) × (cause ≡ BadLimits)
+  pub limits_bad : (cause : Refusal) → v ≡ Err cause → (allowed r ≡ false) × (cause ≡ BadLimits)
   limits_bad cause k =
       by_test (allowed r)
       (λ t.
-      let q : v ≡ Said.Accepted = e ∙ sym (one_made s r (new_table s r) (is_made s r h t) refl).0 in
+      let q : v ≡ (Ok tt) = e ∙ sym (one_made s r (new_table s r) (is_made s r h t) refl).0 in
       let z : ◌≡◌ {A = ℕ} 0 1 = cc in absurd (omega arith))
       (λ t.
-      let q : v ≡ Said.TurnedDown BadLimits = e ∙ sym (none_made s r (not_allowed s r t)).0 in
+      let q : v ≡ Err BadLimits = e ∙ sym (none_made s r (not_allowed s r t)).0 in
       (t, cc))
 
   pub table_made : (u : List ℕ) → allowed r ≡ true → u ≡ new_left s r → u ≡ new_table s r
   table_made u a q = q ∙ sym (one_made s r (new_table s r) (is_made s r h a) refl).1
 
 -- ## By the room in the slices
+
+pub room_none : (room : ℕ) (copied : List ℕ) → room_for room copied ≡ None → too_short room copied ≡ true
+room_none room copied e = by_test (too_short room copied) (λ t. t) (λ t. let q = rw t at e in cc)
+
+pub room_some : (room : ℕ) (copied : List ℕ) (n : ℕ) → room_for room copied ≡ Some n → (too_short room copied ≡ false) × (n ≡ length copied)
+room_some room copied n e =
+    by_test (too_short room copied)
+    (λ t. let q = rw t at e in (cc, cc))
+    (λ t. let q = rw t at e in (t, cc))
 
 module _ (t : List ℕ) (start at m n o : ℕ) where
   abbrev p : Replayed
@@ -101,26 +108,22 @@ module _ (t : List ℕ) (start at m n o : ℕ) where
       unfolding answered
       all_told e = rw (le-ltb m (length (moments_told p)) h, le-ltb n (length (name_told p)) k, e)
 
--- ## By what stands in each slice and number
+-- ## By what is answered by value
 
-pub lent_parts : {t u : Lent}
-    → t.moments ≡ u.moments
-    → t.steps ≡ u.steps
-    → t.name ≡ u.name
-    → t.zone ≡ u.zone
-    → t.named ≡ u.named
-    → t.name_used ≡ u.name_used
-    → t.active ≡ u.active
-    → t.window ≡ u.window
-    → t.usable ≡ u.usable
-    → t.has_next ≡ u.has_next
-    → t.next ≡ u.next
-    → t.out ≡ u.out
-    → t.used ≡ u.used
-    → t.generation ≡ u.generation
-    → t ≡ u
-lent_parts {t} {u} a b c d e f g h i j k l m n =
-    let same : ◌≡◌ {A = Lent} (record { moments = t.moments; steps = t.steps; name = t.name; zone = t.zone; named = t.named; name_used = t.name_used; active = t.active; window = t.window; usable = t.usable; has_next = t.has_next; next = t.next; out = t.out; used = t.used; generation = t.generation }) (record { moments = u.moments; steps = u.steps; name = u.name; zone = u.zone; named = u.named; name_used = u.name_used; active = u.active; window = u.window; usable = u.usable; has_next = u.has_next; next = u.next; out = u.out; used = u.used; generation = u.generation }) = cc in same
+pub outcome_parts : {o p : Outcome}
+    → o.steps ≡ p.steps
+    → o.zone ≡ p.zone
+    → o.name ≡ p.name
+    → o.window ≡ p.window
+    → o.usable ≡ p.usable
+    → o.next ≡ p.next
+    → o.stored ≡ p.stored
+    → o.generation ≡ p.generation
+    → ◌≡◌ {A = Result Outcome Refusal} (Ok o) (Ok p)
+outcome_parts {o} {p} a b c d e f g h =
+    let same : ◌≡◌ {A = Outcome} (record { steps = o.steps; zone = o.zone; name = o.name; window = o.window; usable = o.usable; next = o.next; stored = o.stored; generation = o.generation })
+    (record { steps = p.steps; zone = p.zone; name = p.name; window = p.window; usable = p.usable; next = p.next; stored = p.stored; generation = p.generation }) = cc in
+    rw same
 
 -- ## Demand 3 about the answers
 
@@ -143,7 +146,7 @@ all_passed p m n o z =
 
 module _ (r : Rules) (history : List ℕ) (start at m n o : ℕ) where
   -- where all had room, what the calls left is told
-  is_told : allowed r ≡ true → number_of (replayed r history start at m n o) ≡ 0 → (calls : List Call) → read_calls history ≡ some calls
+  is_told : allowed r ≡ true → number_of (replayed r history start at m n o) ≡ 0 → (calls : List Call) → read_calls history ≡ Some calls
       → replayed r history start at m n o ≡ answers (answers_of (store_from (new_store r) calls) start at)
   unfolding replayed
   is_told a z calls e = rw (a, e) (all_passed (answers_of (store_from (new_store r) calls) start at) m n o (rw (a, e) at z))

@@ -1,6 +1,5 @@
 -- Demand 3 about what a run itself answered: any calls on a new list store, at any limits, from any moment, looked at at any moment.
-use Rattle.std.specs.Prelude.{true, List, ◌≡◌, ℕ, suc, ◌+◌, ◌*◌, ◌-◌, ◌≤◌, take}
-use Rattle.std.proofs.Math.Option.{some}
+use Rattle.std.specs.Prelude.{true, List, ◌≡◌, ℕ, suc, ◌+◌, ◌*◌, ◌-◌, ◌≤◌, take, Some}
 use Rattle.model.specs.Lists.{Lists}
 use Rattle.model.specs.Rules.{Rules, allowed}
 use Rattle.model.specs.Lookups.{active_zone, active_window, last_active_window, active_offset, usable, next_transition}
@@ -42,4 +41,4 @@ pub record Demand3Answered (r : Rules) (l : Lists) (start at : ℕ) (t : Lent) :
 -- for all limits that a store can have and every history of calls, where the run had room for its answers
 abbrev pub ReplayClaim : Rules → List ℕ → ℕ → ℕ → ℕ → Lent → Type 0
 ReplayClaim r history start at number t =
-    allowed r ≡ true → number ≡ 0 → (calls : List Call) → read_calls history ≡ some calls → Demand3Answered r (lists_after r calls) start at t
+    allowed r ≡ true → number ≡ 0 → (calls : List Call) → read_calls history ≡ Some calls → Demand3Answered r (lists_after r calls) start at t

@@ -1,6 +1,5 @@
 -- A whole history of calls on a new list store, and what is looked up after it: what a run answers and what it leaves in what its caller lends.
-use Rattle.std.specs.Prelude.{Bool, cond, List, ℕ, ℤ, length}
-use Rattle.std.proofs.Math.Option.{Option, none, some}
+use Rattle.std.specs.Prelude.{Bool, cond, List, ℕ, ℤ, length, Option, None, Some}
 use Rattle.model.specs.declared.Refusal.TheVariants.{Unreadable, BadLimits}
 use Rattle.model.specs.Lists.{empty}
 use Rattle.model.specs.Answers.{Answer, refused, answers}
@@ -42,8 +41,8 @@ new_store r = record { rules = r; lists = empty; generation = 0 }
 
 -- bytes that are not a history are unreadable
 abbrev pub run : Rules → Option (List Call) → ℕ → ℕ → Answer Replayed
-run r none start at = refused Unreadable
-run r (some calls) start at = answers (answers_of (store_from (new_store r) calls) start at)
+run r None start at = refused Unreadable
+run r (Some calls) start at = answers (answers_of (store_from (new_store r) calls) start at)
 
 abbrev pub name_told : Replayed → List ℕ
 name_told p = name_or p.zone.name

@@ -7,20 +7,18 @@ mod told;
 
 ghost use Rattle.std.specs.Prelude.{◌≡◌, ◌≤◌, length};
 ghost use Rattle.model.specs.Answers.{number_of};
+ghost use Rattle.model.specs.Output.{leaves_copy};
 ghost use Rattle.table.specs.Layout.{table_size};
-ghost use Rattle.replay.specs.Replays.{replayed, lent_after};
+ghost use Rattle.replay.specs.Replays.{name_told, moments_told, replayed, lent_after};
 ghost use Rattle.replay.specs.Claim.{ReplayClaim};
-ghost use Rattle.replay.specs.Tables.{answered};
+ghost use Rattle.replay.specs.Tables.{answered, by_value};
 
-use rules::Verdict;
+use model::Refusal;
 use table::layout::SIZE;
+use told::Outcome;
 
-// What is answered where all is told, for bytes that are not a history, and where a slice has no room.
+// What is answered where all is told.
 const DONE: u64 = 0;
-
-const UNREADABLE: u64 = 1;
-
-const NO_SPACE: u64 = 9;
 
 // How many bytes a moment is written as.
 const MOMENT_SIZE: usize = 8;
@@ -31,48 +29,67 @@ fn answered(
     start: u64,
     at: u64,
     moments: &mut [u8],
-    steps: &mut u64,
     name: &mut [u8],
-    zone: &mut i32,
-    named: &mut u64,
-    name_used: &mut u64,
-    active: &mut u64,
-    window: &mut i32,
-    usable: &mut u64,
-    has_next: &mut u64,
-    next: &mut u64,
     out: &mut [u8],
-    used: &mut u64,
-    generation: &mut u64,
-) -> u64
+) -> Result<Outcome, Refusal>
     requires { table_size ≤ length table.now }
-    ensures number { result ≡ number_of (answered table.now start at (length moments.old) (length name.old) (length out.old)) }
-    ensures outputs { record { moments = moments.new; steps = steps.new; name = name.new; zone = zone.new; named = named.new; name_used = name_used.new; active = active.new; window = window.new; usable = usable.new; has_next = has_next.new; next = next.new; out = out.new; used = used.new; generation = generation.new }
-        ≡ lent_after (answered table.now start at (length moments.old) (length name.old) (length out.old))
-        (record { moments = moments.old; steps = steps.old; name = name.old; zone = zone.old; named = named.old; name_used = name_used.old; active = active.old; window = window.old; usable = usable.old; has_next = has_next.old; next = next.old; out = out.old; used = used.old; generation = generation.old }) }
+    ensures value { result ≡ by_value (answered table.now start at (length moments.old) (length name.old) (length out.old)) }
+    ensures walked { moments.new ≡ leaves_copy (answered table.now start at (length moments.old) (length name.old) (length out.old)) moments_told moments.old }
+    ensures named { name.new ≡ leaves_copy (answered table.now start at (length moments.old) (length name.old) (length out.old)) name_told name.old }
+    ensures stored { out.new ≡ leaves_copy (answered table.now start at (length moments.old) (length name.old) (length out.old)) (λ p. p.stored) out.old }
 {
     let walk = lookups::transitions::walk(table, start);
-    let n = walk.steps + 1;
-    if moments.len() < MOMENT_SIZE * n {
-        return NO_SPACE;
+    let walked = walk.walked();
+    if moments.len() < MOMENT_SIZE * walked.len() {
+        return Err(Refusal::NoSpace);
     }
-    let shown = lookups::zones::active_time_zone(table, at);
-    if name.len() < shown.name_len {
-        return NO_SPACE;
+    let zone = lookups::zones::active_time_zone(table, at);
+    if name.len() < told::name_length(zone.name) {
+        return Err(Refusal::NoSpace);
     }
-    if told::record(table, out, used) {
-        word::put_u64s(moments, &walk.moments, n);
-        *steps = walk.steps as u64;
-        told::zone(table, shown, name, zone, named, name_used);
-        told::window(table, at, active, window, usable);
-        told::next(table, at, has_next, next);
-        *generation = table::layout::generation(table) as u64;
-        return DONE;
-    }
-    NO_SPACE
+    let Some(stored) = told::record(table, out) else {
+        return Err(Refusal::NoSpace);
+    };
+    word::put_u64s(moments, walked, walked.len());
+    Ok(Outcome {
+        steps: walk.steps,
+        zone: zone.offset,
+        name: told::name(table, zone.name, name),
+        window: lookups::windows::active_dst_offset(table, at),
+        usable: lookups::windows::dst_usable(table, at),
+        next: lookups::transitions::next_transition(table, at),
+        stored,
+        generation: table::layout::generation(table),
+    })
 }
 
-// Makes a list store, runs the calls of a history on it, looks up at a moment and walks from another on.
+// Makes a list store in a local table, runs the calls of a history on it, and looks up in it.
+fn replayed(
+    zone_limit: usize,
+    window_limit: usize,
+    history: &[u8],
+    start: u64,
+    at: u64,
+    moments: &mut [u8],
+    name: &mut [u8],
+    out: &mut [u8],
+) -> Result<Outcome, Refusal>
+    ensures value { result ≡ by_value (replayed (record { zone_limit = zone_limit; window_limit = window_limit }) history.now start at (length moments.old) (length name.old) (length out.old)) }
+    ensures walked { moments.new ≡ leaves_copy (replayed (record { zone_limit = zone_limit; window_limit = window_limit }) history.now start at (length moments.old) (length name.old) (length out.old)) moments_told moments.old }
+    ensures named { name.new ≡ leaves_copy (replayed (record { zone_limit = zone_limit; window_limit = window_limit }) history.now start at (length moments.old) (length name.old) (length out.old)) name_told name.old }
+    ensures stored { out.new ≡ leaves_copy (replayed (record { zone_limit = zone_limit; window_limit = window_limit }) history.now start at (length moments.old) (length name.old) (length out.old)) (λ p. p.stored) out.old }
+{
+    let mut table = [0u8; SIZE];
+    table::new(&mut table, zone_limit, window_limit)?;
+    if !history::is_history(history) {
+        return Err(Refusal::Unreadable);
+    }
+    calls::through(&mut table, history);
+    answered(&table, start, at, moments, name, out)
+}
+
+// Makes a list store, runs the calls of a history on it, looks up at a moment and walks from another on. The numbers that it writes are
+// C's: one parameter for each, and a mark beside a value that may be missing, which is 0 then.
 pub fn timesync_replay(
     zone_limit: usize,
     window_limit: usize,
@@ -101,18 +118,30 @@ pub fn timesync_replay(
     ensures claim { ReplayClaim (record { zone_limit = zone_limit; window_limit = window_limit }) history.now start at result
         (record { moments = moments.new; steps = steps.new; name = name.new; zone = zone.new; named = named.new; name_used = name_used.new; active = active.new; window = window.new; usable = usable.new; has_next = has_next.new; next = next.new; out = out.new; used = used.new; generation = generation.new }) }
 {
-    let mut table = [0u8; SIZE];
-    match table::new(&mut table, zone_limit, window_limit) {
-        Verdict::TurnedDown(cause) => numbers::refusal_number(cause) as u64,
-        Verdict::Accepted => {
-            if history::is_history(history) {
-                calls::through(&mut table, history);
-                return answered(
-                    &table, start, at, moments, steps, name, zone, named, name_used, active,
-                    window, usable, has_next, next, out, used, generation,
-                );
-            }
-            UNREADABLE
+    match replayed(
+        zone_limit,
+        window_limit,
+        history,
+        start,
+        at,
+        moments,
+        name,
+        out,
+    ) {
+        Err(cause) => u8::from(cause) as u64,
+        Ok(told) => {
+            *steps = told.steps as u64;
+            *zone = told.zone;
+            *named = told.name.is_some() as u64;
+            *name_used = told.name.unwrap_or(0) as u64;
+            *active = told.window.is_some() as u64;
+            *window = told.window.unwrap_or(0);
+            *usable = told.usable as u64;
+            *has_next = told.next.is_some() as u64;
+            *next = told.next.unwrap_or(0);
+            *used = told.stored as u64;
+            *generation = told.generation as u64;
+            DONE
         }
     }
 }

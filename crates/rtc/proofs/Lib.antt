@@ -1,3 +1,3 @@
 pub mod Back
-pub mod Answers
 pub mod Readings
+pub mod Same

@@ -1,6 +1,5 @@
 -- What holds of the meanings; what holds of the clock itself stands in `model` (ClockLaws).
 use Rattle.std.specs.Prelude.{◌≡◌, ℕ, ◌≤◌}
-use Rattle.model.specs.Maybe.{option_u64}
 use Rattle.model.specs.Claims.{NotBefore}
 use Rattle.model.specs.Clock.{reading}
 use Rattle.rtc.specs.declared.Rtc.{Rtc}
@@ -19,7 +18,6 @@ module _ {A B : Type 0} where
 
 -- of the clock, of its parts and of every answer
 pub record OneResult : Type 0 where
-  pub moment : Injective option_u64
   pub source : Injective option_source
   pub rtc : Injective clock_of
   pub utc_time : Injective reading_of

@@ -1,18 +1,14 @@
 -- What the records of this crate stand for in the definitions. Each is injective, so a contract that equates meanings leaves one result.
-use Rattle.std.specs.Prelude.{Bool, not, List, [], ◌∷◌, ◌++◌, ℕ}
-use Rattle.std.proofs.Math.Option.{Option, none, some}
-use Rattle.model.specs.Basics.{is_some, when}
-use Rattle.model.specs.Maybe.{option_u64, maybe_u64}
+use Rattle.std.specs.Prelude.{Bool, not, List, [], ◌∷◌, ◌++◌, ℕ, Option, None, Some, Ok, Err, is_some}
+use Rattle.std.specs.Prelude.{Result as StdResult}
+use Rattle.model.specs.Basics.{when}
 use Rattle.model.specs.Answers.{Done, done, refused, answers, TrustedTimeSource, MissingTrustedTimeSource, TrustedSource, Effect, report, emit, store_moment, remove_moment, store_source, remove_source, Result}
 use Rattle.model.specs.Clock.{Clock, Reading, reliable, last_known, utc_reports, Persisted}
+use Rattle.model.specs.declared.Refusal.{Refusal}
 use Rattle.rtc.specs.declared.TrustedTimeSource as T
-use Rattle.rtc.specs.declared.MaybeSource.{MaybeSource}
-use Rattle.rtc.specs.declared.MaybeSource.TheVariants as M
 use Rattle.rtc.specs.declared.Rtc.{Rtc}
 use Rattle.rtc.specs.declared.UtcTime.{UtcTime}
 use Rattle.rtc.specs.declared.UtcTime.TheVariants.{Reliable, LastKnown}
-use Rattle.rtc.specs.declared.LoadAnswer.{LoadAnswer}
-use Rattle.rtc.specs.declared.LoadAnswer.TheVariants as L
 use Rattle.rtc.specs.declared.Loaded.{Loaded}
 use Rattle.rtc.specs.declared.UtcTimeSet.{UtcTimeSet}
 use Rattle.rtc.specs.declared.UtcTimePersisted.{UtcTimePersisted}
@@ -30,9 +26,9 @@ abbrev pub trusted_of : T.TrustedTimeSource → TrustedSource
 trusted_of t = record { fabric = t.fab_idx; node = t.node_id; endpoint = t.endpoint }
 
 -- a trusted source, or none
-abbrev pub option_source : MaybeSource → Option TrustedSource
-option_source M.Nothing = none
-option_source (M.Is t) = some (trusted_of t)
+abbrev pub option_source : Option T.TrustedTimeSource → Option TrustedSource
+option_source None = None
+option_source (Some t) = Some (trusted_of t)
 
 -- the clock that a record holds, whatever its fields are
 abbrev pub clock_of : Rtc → Clock
@@ -42,7 +38,7 @@ clock_of r =
       persisted = r.utc_us_persisted;
       granularity = r.granularity;
       source = r.source;
-      anchor = option_u64 r.anchor;
+      anchor = r.anchor;
       trusted = option_source r.trusted_time_source;
     }
 
@@ -53,9 +49,9 @@ abbrev pub trusted_time_source_of : TrustedSource → T.TrustedTimeSource
 trusted_time_source_of s = record { fab_idx = s.fabric; node_id = s.node; endpoint = s.endpoint }
 
 -- the enum of a trusted source, or of none
-abbrev pub maybe_source : Option TrustedSource → MaybeSource
-maybe_source none = M.Nothing
-maybe_source (some s) = M.Is (trusted_time_source_of s)
+abbrev pub maybe_source : Option TrustedSource → Option T.TrustedTimeSource
+maybe_source None = None
+maybe_source (Some s) = Some (trusted_time_source_of s)
 
 -- the record that holds a clock
 abbrev pub rtc_of : Clock → Rtc
@@ -65,7 +61,7 @@ rtc_of c =
       utc_us_persisted = c.persisted;
       granularity = c.granularity;
       source = c.source;
-      anchor = maybe_u64 c.anchor;
+      anchor = c.anchor;
       trusted_time_source = maybe_source c.trusted;
     }
 
@@ -81,9 +77,9 @@ abbrev pub reset_of : Rtc → Result Clock (Unit {0})
 reset_of r = record { state = clock_of r; answer = done; effects = remove_moment ∷ remove_source ∷ [] }
 
 -- whether a load was taken, and why not
-abbrev pub load_answer_of : LoadAnswer → Done
-load_answer_of L.Done = done
-load_answer_of (L.Refused cause) = refused cause
+abbrev pub load_answer_of : StdResult (Unit {0}) Refusal → Done
+load_answer_of (Ok tt) = done
+load_answer_of (Err cause) = refused cause
 
 -- a load asks for nothing
 abbrev pub loaded_of : Loaded → Result Clock (Unit {0})
@@ -95,16 +91,16 @@ utc_time_set_of r = record { state = clock_of r.rtc; answer = answers r.changed;
 
 -- the moment that is to be stored, if there is one
 abbrev pub moment_stored : Option ℕ → List Effect
-moment_stored none = []
-moment_stored (some moment) = store_moment moment ∷ []
+moment_stored None = []
+moment_stored (Some moment) = store_moment moment ∷ []
 
 -- a persisting setting answers whether something changed and whether the moment is stored; it reports, then stores
 abbrev pub utc_time_persisted_of : UtcTimePersisted → Result Clock Persisted
 utc_time_persisted_of r =
     record {
       state = clock_of r.rtc;
-      answer = answers (record { changed = r.changed; stored = is_some (option_u64 r.stored) });
-      effects = utc_reports ++ moment_stored (option_u64 r.stored);
+      answer = answers (record { changed = r.changed; stored = is_some (r.stored) });
+      effects = utc_reports ++ moment_stored (r.stored);
     }
 
 -- what a different source reports, and emits where it is none

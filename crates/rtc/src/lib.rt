@@ -2,31 +2,22 @@
 // A call that changes the clock answers the next one, beside what decides the reports, the events and what is stored.
 #![tactic(auto)]
 
-ghost use Rattle.std.specs.Prelude.{◌≡◌, ◌+◌, ◌-◌};
-ghost use Rattle.model.specs.Basics.{held_at_top};
-ghost use Rattle.model.specs.Maybe.{option_u64};
+ghost use Rattle.std.specs.Prelude.{◌≡◌};
 ghost use Rattle.model.specs.Clock.{fresh, reset_persist, reading, reliable_moment, granularity_read, source_read};
 ghost use Rattle.rtc.specs.Meaning.{clock_of, reading_of, reset_of};
 
-use model::{MaybeU64, Refusal, TimeGranularity, TimeSource};
+use model::{Refusal, TimeGranularity, TimeSource};
 
 mod load;
 mod setting;
 mod trusted;
 
 // The fabric that installed the source, a node of that fabric, and the endpoint of the node that tells the time.
-#[derive(Clone, Copy)]
+#[derive(Clone, Copy, PartialEq, Eq)]
 pub struct TrustedTimeSource {
     pub fab_idx: u8,
     pub node_id: u64,
     pub endpoint: u16,
-}
-
-// A trusted time source that may be missing.
-#[derive(Clone, Copy)]
-pub enum MaybeSource {
-    Nothing,
-    Is(TrustedTimeSource),
 }
 
 #[derive(Clone, Copy)]
@@ -38,8 +29,8 @@ pub struct Rtc {
     pub granularity: TimeGranularity,
     pub source: TimeSource,
     // The tick of the last setting; missing until the clock is set.
-    pub anchor: MaybeU64,
-    pub trusted_time_source: MaybeSource,
+    pub anchor: Option<u64>,
+    pub trusted_time_source: Option<TrustedTimeSource>,
 }
 
 // The current UTC time, or the last known one where the clock is not set.
@@ -49,17 +40,10 @@ pub enum UtcTime {
     LastKnown(u64),
 }
 
-// Whether a load was taken.
-#[derive(Clone, Copy)]
-pub enum LoadAnswer {
-    Done,
-    Refused(Refusal),
-}
-
 #[derive(Clone, Copy)]
 pub struct Loaded {
     pub rtc: Rtc,
-    pub answer: LoadAnswer,
+    pub answer: Result<(), Refusal>,
 }
 
 // The clock after a setting, which is always to be reported, and whether something changed.
@@ -74,7 +58,7 @@ pub struct UtcTimeSet {
 pub struct UtcTimePersisted {
     pub rtc: Rtc,
     pub changed: bool,
-    pub stored: MaybeU64,
+    pub stored: Option<u64>,
 }
 
 // What became of the trusted time source.
@@ -107,12 +91,12 @@ pub struct SourcePersisted {
 
 impl UtcTime {
     // The moment of a reliable reading.
-    pub fn reliable(self) -> MaybeU64
-        ensures { option_u64 result ≡ reliable_moment (reading_of self) }
+    pub fn reliable(self) -> Option<u64>
+        ensures { result ≡ reliable_moment (reading_of self) }
     {
         match self {
-            UtcTime::Reliable(utc_us) => MaybeU64::Is(utc_us),
-            UtcTime::LastKnown(_) => MaybeU64::Nothing,
+            UtcTime::Reliable(utc_us) => Some(utc_us),
+            UtcTime::LastKnown(_) => None,
         }
     }
 }
@@ -127,63 +111,51 @@ impl Rtc {
             utc_us_persisted: build,
             granularity: TimeGranularity::NoTime,
             source: TimeSource::None,
-            anchor: MaybeU64::Nothing,
-            trusted_time_source: MaybeSource::Nothing,
+            anchor: None,
+            trusted_time_source: None,
         }
     }
 
     // Resets the clock; what is persisted for it is to be removed.
+    #[tactic(auto, unfolding(model::specs::Clock::reset_persist))]
     pub fn reset_persist(self, build: u64) -> Rtc
         ensures { reset_of result ≡ reset_persist build }
     {
         Rtc::new(build)
     }
 
-    // The current UTC time at a tick, or the last known one.
+    // The current UTC time at a tick, or the last known one. A tick before the anchor adds nothing, and the sum is held at the largest number.
+    #[tactic(auto, unfolding(model::specs::Clock::reading))]
     pub fn utc_time(self, tick: u64) -> UtcTime
         ensures { reading_of result ≡ reading (clock_of self) tick }
     {
-        let utc_us = self.utc_us;
-        let anchor = self.anchor;
-        match anchor {
-            MaybeU64::Nothing => UtcTime::LastKnown(utc_us),
-            MaybeU64::Is(at) => UtcTime::Reliable(advanced(utc_us, at, tick)),
+        match self.anchor {
+            None => UtcTime::LastKnown(self.utc_us),
+            Some(at) => UtcTime::Reliable(self.utc_us.saturating_add(tick.saturating_sub(at))),
         }
     }
 
     // The granularity of the current UTC time, and none until the clock is set.
+    #[tactic(auto, unfolding(model::specs::Clock::granularity_read))]
     pub fn utc_time_granularity(self) -> TimeGranularity
         ensures { result ≡ granularity_read (clock_of self) }
     {
-        let anchor = self.anchor;
-        match anchor {
-            MaybeU64::Nothing => TimeGranularity::NoTime,
-            MaybeU64::Is(_) => self.granularity,
+        if self.anchor.is_some() {
+            self.granularity
+        } else {
+            TimeGranularity::NoTime
         }
     }
 
     // The source of the current UTC time, and none until the clock is set.
+    #[tactic(auto, unfolding(model::specs::Clock::source_read))]
     pub fn utc_time_source(self) -> TimeSource
         ensures { result ≡ source_read (clock_of self) }
     {
-        let anchor = self.anchor;
-        match anchor {
-            MaybeU64::Nothing => TimeSource::None,
-            MaybeU64::Is(_) => self.source,
+        if self.anchor.is_some() {
+            self.source
+        } else {
+            TimeSource::None
         }
     }
-}
-
-// The UTC time with the ticks since the anchor, held at the largest number; a tick before the anchor adds nothing.
-fn advanced(utc_us: u64, at: u64, tick: u64) -> u64
-    ensures { result ≡ held_at_top (utc_us + (tick - at)) }
-{
-    if tick <= at {
-        return utc_us;
-    }
-    let elapsed = tick - at;
-    if elapsed <= 0xffff_ffff_ffff_ffff - utc_us {
-        return utc_us + elapsed;
-    }
-    0xffff_ffff_ffff_ffff
 }

@@ -2,45 +2,39 @@
 #![tactic(auto)]
 
 ghost use Rattle.std.specs.Prelude.{◌≡◌};
-ghost use Rattle.model.specs.Maybe.{option_u64};
 ghost use Rattle.model.specs.Clock.{reset_persist, load, set_utc_time, set_utc_time_persist, set_trusted_time_source_persist};
 ghost use Rattle.rtc.specs.Meaning.{clock_of, option_source, reset_of, loaded_of, utc_time_set_of, utc_time_persisted_of, source_persisted_of};
 
-use model::{MaybeU64, TimeGranularity, TimeSource};
-use rtc::{LoadAnswer, MaybeSource, Rtc, SourceStored};
+use model::{Refusal, TimeGranularity, TimeSource};
+use rtc::{Rtc, SourceStored, TrustedTimeSource};
 
 // What a persisting setting answers: whether something changed, and the moment that is to be stored.
 #[derive(Clone, Copy)]
 pub struct UtcTimePersistAnswer {
     pub changed: bool,
-    pub stored: MaybeU64,
-}
-
-// The clock after a persisting setting, beside its answer.
-#[derive(Clone, Copy)]
-struct AfterPersisting {
-    rtc: Rtc,
-    answer: UtcTimePersistAnswer,
+    pub stored: Option<u64>,
 }
 
 // Resets the clock; what is persisted for it is to be removed.
 pub fn reset_persist(rtc: &mut Rtc, build: u64)
     ensures { reset_of rtc.new ≡ reset_persist build }
 {
-    let was = *rtc;
-    let new = was.reset_persist(build);
-    *rtc = new;
+    *rtc = rtc.reset_persist(build);
 }
 
 // Loads what is persisted; a source with fabric index 0 is a bad record, and the clock stays as it is.
-pub fn load_persist(rtc: &mut Rtc, build: u64, stored: MaybeU64, source: MaybeSource) -> LoadAnswer
-    ensures { loaded_of (record { rtc = rtc.exit.now; answer = result })
-        ≡ load build (clock_of rtc.entry.now) (option_u64 stored) (option_source source) }
+pub fn load_persist(
+    rtc: &mut Rtc,
+    build: u64,
+    stored: Option<u64>,
+    source: Option<TrustedTimeSource>,
+) -> Result<(), Refusal>
+    ensures { loaded_of (record { rtc = rtc.new; answer = result })
+        ≡ load build (clock_of rtc.old) stored (option_source source) }
 {
-    let was = *rtc;
-    let done = was.load_persist(build, stored, source);
-    *rtc = done.rtc;
-    done.answer
+    let loaded = rtc.load_persist(build, stored, source);
+    *rtc = loaded.rtc;
+    loaded.answer
 }
 
 // Sets the UTC time and anchors it at the tick, also where nothing changes; answers whether something did.
@@ -51,11 +45,10 @@ pub fn set_utc_time(
     source: TimeSource,
     tick: u64,
 ) -> bool
-    ensures { utc_time_set_of (record { rtc = rtc.exit.now; changed = result })
-        ≡ set_utc_time (clock_of rtc.entry.now) utc_us granularity source tick }
+    ensures { utc_time_set_of (record { rtc = rtc.new; changed = result })
+        ≡ set_utc_time (clock_of rtc.old) utc_us granularity source tick }
 {
-    let was = *rtc;
-    let done = was.set_utc_time(utc_us, granularity, source, tick);
+    let done = rtc.set_utc_time(utc_us, granularity, source, tick);
     *rtc = done.rtc;
     done.changed
 }
@@ -68,45 +61,26 @@ pub fn set_utc_time_persist(
     source: TimeSource,
     tick: u64,
 ) -> UtcTimePersistAnswer
-    ensures { utc_time_persisted_of (record { rtc = rtc.exit.now; changed = result.changed; stored = result.stored })
-        ≡ set_utc_time_persist (clock_of rtc.entry.now) utc_us granularity source tick }
+    ensures { utc_time_persisted_of (record { rtc = rtc.new; changed = result.changed; stored = result.stored })
+        ≡ set_utc_time_persist (clock_of rtc.old) utc_us granularity source tick }
 {
-    let was = *rtc;
-    let done = after_persisting(was, utc_us, granularity, source, tick);
+    let done = rtc.set_utc_time_persist(utc_us, granularity, source, tick);
     *rtc = done.rtc;
-    done.answer
+    UtcTimePersistAnswer {
+        changed: done.changed,
+        stored: done.stored,
+    }
 }
 
 // Installs or clears the trusted time source, and has it stored or removed.
-pub fn set_trusted_time_source_persist(rtc: &mut Rtc, source: MaybeSource) -> SourceStored
-    ensures { source_persisted_of (record { rtc = rtc.exit.now; stored = result })
-        ≡ set_trusted_time_source_persist (clock_of rtc.entry.now) (option_source source) }
+pub fn set_trusted_time_source_persist(
+    rtc: &mut Rtc,
+    source: Option<TrustedTimeSource>,
+) -> SourceStored
+    ensures { source_persisted_of (record { rtc = rtc.new; stored = result })
+        ≡ set_trusted_time_source_persist (clock_of rtc.old) (option_source source) }
 {
-    let was = *rtc;
-    let done = was.set_trusted_time_source_persist(source);
+    let done = rtc.set_trusted_time_source_persist(source);
     *rtc = done.rtc;
     done.stored
-}
-
-// A persisting setting, its answer gathered in one field.
-fn after_persisting(
-    rtc: Rtc,
-    utc_us: u64,
-    granularity: TimeGranularity,
-    source: TimeSource,
-    tick: u64,
-) -> AfterPersisting
-    ensures { utc_time_persisted_of (record { rtc = result.rtc; changed = result.answer.changed; stored = result.answer.stored })
-        ≡ set_utc_time_persist (clock_of rtc) utc_us granularity source tick }
-{
-    let done = rtc.set_utc_time_persist(utc_us, granularity, source, tick);
-    let after = done.rtc;
-    let stored = done.stored;
-    AfterPersisting {
-        rtc: after,
-        answer: UtcTimePersistAnswer {
-            changed: done.changed,
-            stored: stored,
-        },
-    }
 }

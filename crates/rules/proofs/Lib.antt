@@ -1,4 +1,3 @@
-pub mod Tests
 pub mod Walk
 pub mod Entries
 pub mod There

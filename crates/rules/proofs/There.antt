@@ -1,4 +1,5 @@
 -- What stands at a place where an entry is readable.
+use Rattle.std.specs.Prelude.{Some}
 use mathlib.Core.Bool.{true}
 use mathlib.Core.List.{List}
 use mathlib.Core.Path.{◌≡◌}
@@ -6,16 +7,12 @@ use Prim.Native.Nat.{ℕ, ◌+◌, ◌≤◌}
 use borrow.Author.Tests.{leb-true, leb-false, eqb-true, eqb-false}
 use lib.Dec.{leb, eqb}
 use lib.ListN.{length, take, drop, get_or}
-use Rattle.model.specs.declared.MaybeU64.TheVariants as U
 use Rattle.model.specs.Bytes.{number}
 use Rattle.model.proofs.Facts.{by_test}
 use Rattle.word.specs.Place.{text_at}
 use Rattle.word.proofs.Places.{text_there}
-use Rattle.record.specs.declared.NamePlace.TheVariants as N
-use Rattle.record.specs.declared.TimeZoneRead.TheVariants as Z
-use Rattle.record.specs.declared.DSTOffsetRead.TheVariants as W
 use Rattle.record.specs.Fronts.{zone_at, window_at}
-use Rattle.record.proofs.Front.{offset_at, start_at, zone_short, zone_other_mark, zone_no_length, zone_named_lem, zone_bad_name, window_short, window_other_mark, window_cut, window_ended}
+use Rattle.record.proofs.Front.{offset_at, start_at, zone_made, window_made, zone_short, zone_other_mark, zone_no_length, zone_named_lem, zone_bad_name, window_short, window_other_mark, window_cut, window_ended}
 use Rattle.rules.specs.Entries.{ZoneThere, WindowThere}
 
 -- ## A zone
@@ -43,7 +40,7 @@ module _ (s : List ℕ) (at : ℕ) (r : ZoneThere s at) where
     pub zone_end : at + 14 + size ≤ length s
     zone_end = leb-true (at + 14 + size) (length s) (text_there size s (at + 14) name_there).0
 
-    pub zone_is : zone_at s at ≡ Z.Entry (offset_at s at) (start_at s at) (N.At (at + 14) size) (at + 14 + size)
+    pub zone_is : zone_at s at ≡ zone_made (offset_at s at) (start_at s at) (Some (record { at = at + 14; len = size })) (at + 14 + size)
     zone_is = let t = text_there size s (at + 14) name_there in zone_named_lem s at zone_head zone_mark zone_length t.0 t.1
 
 -- ## A window
@@ -61,5 +58,5 @@ module _ (s : List ℕ) (at : ℕ) (r : WindowThere s at) where
     window_end =
         by_test (leb (at + 13 + 8) (length s)) (λ e. leb-true _ _ e) (λ e. absurd (r (window_cut s at window_head window_mark (leb-false _ _ e))))
 
-    pub window_is : window_at s at ≡ W.Entry (offset_at s at) (start_at s at) (U.Is (number (take 8 (drop (at + 13) s)))) (at + 13 + 8)
+    pub window_is : window_at s at ≡ window_made (offset_at s at) (start_at s at) (Some (number (take 8 (drop (at + 13) s)))) (at + 13 + 8)
     window_is = window_ended s at window_head window_mark window_end

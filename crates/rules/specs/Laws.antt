@@ -1,6 +1,5 @@
 -- The answers are the model's verdicts on the calls.
-use Rattle.std.specs.Prelude.{List, ◌≡◌, ℕ}
-use Rattle.std.proofs.Math.Option.{some}
+use Rattle.std.specs.Prelude.{List, ◌≡◌, ℕ, Some}
 use Rattle.model.specs.Rules.{Rules}
 use Rattle.model.specs.History.{SetTimeZone, SetDSTOffset, Load, verdict}
 use Rattle.rules.specs.Verdicts.{verdict_of, zones_tested, windows_tested, record_tested}
@@ -13,4 +12,4 @@ abbrev pub WindowsAre : Type 0
 WindowsAre = (r : Rules) (s : List ℕ) → windows_tested r.window_limit s ≡ verdict_of (verdict r (SetDSTOffset s))
 
 abbrev pub RecordsAre : Type 0
-RecordsAre = (r : Rules) (s : List ℕ) → record_tested r.zone_limit r.window_limit s ≡ verdict_of (verdict r (Load (some s)))
+RecordsAre = (r : Rules) (s : List ℕ) → record_tested r.zone_limit r.window_limit s ≡ verdict_of (verdict r (Load (Some s)))

@@ -1,4 +1,5 @@
-// Numbers at a place where all their bytes stand: nothing is tested.
+// Numbers at a place where all their bytes stand: nothing is tested. The same functions of `word` are private to it, and its public ones
+// test the place, which the readers of `record` have tested already.
 ghost use Rattle.std.specs.Prelude.{◌≡◌, ◌+◌, ◌≤◌, length, take, drop};
 ghost use Rattle.model.specs.Bytes.{number, signed};
 

@@ -1,7 +1,7 @@
 -- What is printed for an input, by what is said of the record in it.
+use Rattle.std.specs.Prelude.{Option, None, Some, Result, Ok, Err}
 use mathlib.Core.Bool.{true}
 use mathlib.Core.List.{List}
-use mathlib.Core.Option.{Option, none, some}
 use mathlib.Core.Path.{◌≡◌, refl, sym, ap, ◌∙◌}
 use Prim.Native.Nat.{ℕ, ◌≤◌, ◌<◌}
 use native.Mathlib.Omega.{arith}
@@ -19,8 +19,6 @@ use Rattle.model.specs.Bytes.{number, read_record}
 use Rattle.model.specs.Schedule.{walk_text, record_text, refused7, schedule}
 use Rattle.word.specs.Place.{word_at}
 use Rattle.word.proofs.Writes.{zeros, length_zeros}
-use Rattle.rules.specs.declared.Verdict.{Verdict}
-use Rattle.rules.specs.declared.Verdict.TheVariants.{Accepted, TurnedDown}
 use Rattle.rules.specs.Verdicts.{verdict_of, record_tested}
 use Rattle.rules.proofs.Agree.{is_accepted, is_turned_down}
 use Rattle.table.specs.Layout.{table_size, lists_in, store_in, new_table}
@@ -50,31 +48,31 @@ module _ (t : List ℕ) (n : t ≡ new_left (zeros table_size) largest) where
 
   module _ (b : List ℕ) where
     -- what is said of the record is what the model says at the largest limits
-    said_is : load_said t b ≡ verdict_of (verdict largest (Load (some b)))
+    said_is : load_said t b ≡ verdict_of (verdict largest (Load (Some b)))
     unfolding load_said record_tested
-    said_is = ap (λ (s : Store). verdict_of (verdict s.rules (Load (some b)))) is_fresh
+    said_is = ap (λ (s : Store). verdict_of (verdict s.rules (Load (Some b)))) is_fresh
 
     -- an accepted record leaves its lists
-    lists_are : AreBytes b → verdict largest (Load (some b)) ≡ M.accepted → lists_in (load_left t b) ≡ record_loaded largest empty (read_record b)
+    lists_are : AreBytes b → verdict largest (Load (Some b)) ≡ M.accepted → lists_in (load_left t b) ≡ record_loaded largest empty (read_record b)
     unfolding store_after load after
     lists_are a e =
         let h : table_size ≤ length t = omega (arith, ap length made, (new_follows (zeros table_size) largest all_zeros any_allowed).long, all_zeros) in
         ap (λ (s : Store). s.lists) (load_follows t b h a)
-        ∙ ap (λ (s : Store). (store_after s (Load (some b))).lists) is_fresh
-        ∙ ap (λ (v : M.Verdict). (store_loaded fresh (some b) v).state.lists) e
+        ∙ ap (λ (s : Store). (store_after s (Load (Some b))).lists) is_fresh
+        ∙ ap (λ (v : M.Verdict). (store_loaded fresh (Some b) v).state.lists) e
 
 -- ## The text of a record
 
 module _ (m : ℕ) where
   accepted_text : (f : Option Lists) → record_verdict largest f ≡ M.accepted → (k : Lists) → k ≡ record_loaded largest empty f → walk_text k (walk k m) ≡ record_text f m
-  accepted_text none h k e = let z : ◌≡◌ {A = ℕ} 0 1 = cc in absurd (omega arith)
-  accepted_text (some l) h k e =
+  accepted_text None h k e = let z : ◌≡◌ {A = ℕ} 0 1 = cc in absurd (omega arith)
+  accepted_text (Some l) h k e =
       let i : k ≡ l = e ∙ ap (λ (v : M.Verdict). if_accepted v l empty) h in
       ap (λ (x : Lists). walk_text x (walk x m)) i ∙ sym (ap (λ (v : M.Verdict). if_accepted v (walk_text l (walk l m)) refused7) h)
 
   refused_text : (f : Option Lists) (cause : Refusal) → record_verdict largest f ≡ M.turned_down cause → refused7 ≡ record_text f m
-  refused_text none cause h = refl
-  refused_text (some l) cause h = sym (ap (λ (v : M.Verdict). if_accepted v (walk_text l (walk l m)) refused7) h)
+  refused_text None cause h = refl
+  refused_text (Some l) cause h = sym (ap (λ (v : M.Verdict). if_accepted v (walk_text l (walk l m)) refused7) h)
 
 -- ## The text of an input
 
@@ -97,17 +95,17 @@ module _ (s : List ℕ) where
     moment_is = rw (le-leb 8 (length s) h)
 
     -- the bytes after the moment, loaded as a record into a new table
-    module _ (t : List ℕ) (n : t ≡ new_left (zeros table_size) largest) (part : List ℕ) (p : part ≡ drop 8 s) (v : Verdict) (e : v ≡ load_said t part) where
-      pub bad_record : (cause : Refusal) → v ≡ TurnedDown cause → refused7 ≡ schedule s
+    module _ (t : List ℕ) (n : t ≡ new_left (zeros table_size) largest) (part : List ℕ) (p : part ≡ drop 8 s) (v : Result (Unit {0}) Refusal) (e : v ≡ load_said t part) where
+      pub bad_record : (cause : Refusal) → v ≡ Err cause → refused7 ≡ schedule s
       unfolding verdict
       bad_record cause f =
-          refused_text (number (take 8 s)) (read_record part) cause (is_turned_down (verdict largest (Load (some part))) cause (sym (said_is t n part) ∙ sym e ∙ f))
+          refused_text (number (take 8 s)) (read_record part) cause (is_turned_down (verdict largest (Load (Some part))) cause (sym (said_is t n part) ∙ sym e ∙ f))
           ∙ ap (λ (b : List ℕ). record_text (read_record b) (number (take 8 s))) p ∙ as_read
 
-      pub good_record : v ≡ Accepted → AreBytes part → (u : List ℕ) → u ≡ load_left t part → (m : ℕ) → m ≡ word_at 8 s 0 → walk_text (lists_in u) (walk (lists_in u) m) ≡ schedule s
+      pub good_record : v ≡ (Ok tt) → AreBytes part → (u : List ℕ) → u ≡ load_left t part → (m : ℕ) → m ≡ word_at 8 s 0 → walk_text (lists_in u) (walk (lists_in u) m) ≡ schedule s
       unfolding verdict
       good_record f a u l m g =
-          let c = is_accepted (verdict largest (Load (some part))) (sym (said_is t n part) ∙ sym e ∙ f) in
+          let c = is_accepted (verdict largest (Load (Some part))) (sym (said_is t n part) ∙ sym e ∙ f) in
           accepted_text m (read_record part) c (lists_in u) (ap lists_in l ∙ lists_are t n part a c)
           ∙ ap (λ (x : ℕ). record_text (read_record part) x) (g ∙ moment_is)
           ∙ ap (λ (b : List ℕ). record_text (read_record b) (number (take 8 s))) p ∙ as_read

@@ -1,7 +1,7 @@
 -- Texts written over zeros, and what is printed of a record that was read.
 use mathlib.Core.List.{List, ◌++◌, append_assoc}
-use mathlib.Core.Path.{◌≡◌, ap, ◌∙◌}
-use Prim.Native.Nat.{ℕ, ◌+◌, ◌-◌, ◌≤◌}
+use mathlib.Core.Path.{◌≡◌, refl, ap, ◌∙◌}
+use Prim.Native.Nat.{ℕ, ◌+◌, ◌-◌, ◌*◌, ◌≤◌}
 use native.Mathlib.Omega.{arith}
 use lib.ListN.{length, drop, replicate}
 use Rattle.model.specs.Lists.{Lists}
@@ -11,39 +11,49 @@ use Rattle.model.specs.Schedule.{header, steps_word, new_line, decimal, line, wa
 use Rattle.word.specs.Place.{put}
 use Rattle.word.proofs.Writes.{zeros, length_zeros, drop_zeros, all_short}
 use Rattle.text.proofs.Digits.{decimal_length}
-use Rattle.text.proofs.Runs.{Written, Run, no_word, same_length, word, put_more}
+use Rattle.text.specs.declared.Writer.{Writer}
+use Rattle.text.specs.Written.{Wrote}
+use Rattle.text.proofs.Runs.{Run, no_word, more, same_length}
+use Rattle.schedule_text.specs.declared.Text.{Text}
 use Rattle.schedule_text.specs.Texts.{text_of}
 use Rattle.schedule_text.proofs.Words.{line_length}
 
 -- words over zeros from the front on are a text
-pub text_is : {xs out : List ℕ} {n most : ℕ} → Run (zeros 2879) 0 xs out n most → record { bytes = out; length = n } ≡ text_of xs
+pub text_is : {w v : Writer} {xs : List ℕ} {most : ℕ} → Run w v xs most → w.at ≡ 0 → w.out.now ≡ zeros 2879 → record { bytes = v.out.now; length = v.at } ≡ text_of xs
 unfolding text_of
-text_is {xs} {out} {n} {most} c =
-    let e : 0 + length xs ≡ length xs = omega arith in
-    ap (λ (b : List ℕ). record { bytes = b; length = n })
-    (c.is ∙ ap (λ (k : ℕ). xs ++ drop k (zeros 2879)) e ∙ ap (λ (l : List ℕ). xs ++ l) (drop_zeros (length xs) 2879))
-    ∙ ap (λ (k : ℕ). record { bytes = xs ++ replicate (2879 - length xs) 0; length = k }) (c.place ∙ e)
+text_is {w} {v} {xs} c z e =
+    let n : v.at ≡ length xs = omega (arith, c.place) in
+    let k : 0 + length xs ≡ length xs = omega arith in
+    let is : v.out.now ≡ xs ++ replicate (2879 - length xs) 0
+    = c.bytes ∙ ap (λ (i : ℕ). put w.out.now i xs) z ∙ ap (λ (s : List ℕ). put s 0 xs) e
+    ∙ ap (λ (i : ℕ). xs ++ drop i (zeros 2879)) k ∙ ap (λ (l : List ℕ). xs ++ l) (drop_zeros (length xs) 2879) in
+    rw (is, n) refl
 
--- the header
-module _ (s₁ : List ℕ) (n₁ : ℕ) (p₁ : Written (zeros 2879) 0 header s₁ n₁) where
-  header_run : Run (zeros 2879) 0 header s₁ n₁ 23
-  header_run = let z = length_zeros 2879 in word (zeros 2879) 0 (no_word (zeros 2879) 0 (omega arith)) header s₁ n₁ 23 p₁ (omega arith) (omega arith)
+-- a text by value, from its bytes after the writer is let go
+pub as_text : (v : Writer) {t : Text} {b : List ℕ} {n : ℕ} → record { bytes = v.out.now; length = v.at } ≡ t → n ≡ v.at → b ≡ v.out.now → record { bytes = b; length = n } ≡ t
+as_text v p q r = rw (q, r) p
 
-  pub lines_fit : n₁ + 2829 ≤ length s₁
-  lines_fit = omega (arith, header_run.within, same_length (zeros 2879) 0 header_run, length_zeros 2879)
+-- a text of one word
+pub word_text : {w v : Writer} (ws : List ℕ) → Wrote w v ws → length ws ≤ 2879 → w.at ≡ 0 → w.out.now ≡ zeros 2879 → record { bytes = v.out.now; length = v.at } ≡ text_of ws
+word_text ws p h z e = let s = length_zeros 2879 in let k = ap length e in text_is (more (no_word (omega arith)) 2879 p h (omega arith)) z e
 
-  -- the lines of a walk after it, and the steps after them
-  module _ (l : Lists) (w : Walk) (few : length w.moments ≤ 41) (s₂ : List ℕ) (n₂ : ℕ) (p₂ : (s₂ ≡ put s₁ n₁ (all_bytes (line l) w.moments)) × (n₂ ≡ n₁ + length (all_bytes (line l) w.moments))) where
-    lines_run : Run (zeros 2879) 0 (header ++ all_bytes (line l) w.moments) s₂ n₂ 2852
-    lines_run =
-        let short : length (all_bytes (line l) w.moments) ≤ 2829 = omega (arith, all_short (line l) 69 (line_length l) w.moments) in
-        put_more (zeros 2879) 0 header_run (all_bytes (line l) w.moments) s₂ n₂ 2829 p₂ short (omega (arith, header_run.within, length_zeros 2879))
+-- the header, the lines of a walk after it, and the steps after them
+module _ {w w₁ : Writer} (z : w.at ≡ 0) (e : w.out.now ≡ zeros 2879) (p₁ : Wrote w w₁ header) where
+  long : length w.out.now ≡ 2879
+  long = ap length e ∙ length_zeros 2879
 
-    pub walk_text_lem : (s₃ : List ℕ) (n₃ : ℕ) → Written s₂ n₂ steps_word s₃ n₃ → (s₄ : List ℕ) (n₄ : ℕ) → Written s₃ n₃ (decimal w.steps) s₄ n₄
-        → (s₅ : List ℕ) (n₅ : ℕ) → Written s₄ n₄ new_line s₅ n₅ → record { bytes = s₅; length = n₅ } ≡ text_of (walk_text l w)
-    walk_text_lem s₃ n₃ p₃ s₄ n₄ p₄ s₅ n₅ p₅ =
-        let z = length_zeros 2879 in
-        let r₃ = word (zeros 2879) 0 lines_run steps_word s₃ n₃ 6 p₃ (omega arith) (omega arith) in
-        let r₄ = word (zeros 2879) 0 r₃ (decimal w.steps) s₄ n₄ 20 p₄ (decimal_length w.steps) (omega arith) in
-        let r₅ = word (zeros 2879) 0 r₄ new_line s₅ n₅ 1 p₅ (omega arith) (omega arith) in
-        text_is r₅ ∙ ap text_of (simp append_assoc)
+  header_run : Run w w₁ header 23
+  header_run = more (no_word (omega arith)) 23 p₁ (omega arith) (omega (arith, long))
+
+  pub lines_fit : (n : ℕ) → n ≤ 41 → w₁.at + 69 * n ≤ length w₁.out.now
+  lines_fit n h = omega (arith, header_run.place, same_length header_run, long)
+
+  pub walk_text_lem : {w₂ w₃ w₄ w₅ : Writer} (l : Lists) (k : Walk) → length k.moments ≤ 41 → Wrote w₁ w₂ (all_bytes (line l) k.moments) → Wrote w₂ w₃ steps_word → Wrote w₃ w₄ (decimal k.steps) → Wrote w₄ w₅ new_line
+      → record { bytes = w₅.out.now; length = w₅.at } ≡ text_of (walk_text l k)
+  walk_text_lem l k few p₂ p₃ p₄ p₅ =
+      let short : length (all_bytes (line l) k.moments) ≤ 2829 = omega (arith, all_short (line l) 69 (line_length l) k.moments) in
+      let r₂ = more header_run 2829 p₂ short (omega (arith, short, long)) in
+      let r₃ = more r₂ 6 p₃ (omega arith) (omega (arith, r₂.within, long)) in
+      let r₄ = more r₃ 20 p₄ (decimal_length k.steps) (omega (arith, r₃.within, decimal_length k.steps, long)) in
+      let r₅ = more r₄ 1 p₅ (omega arith) (omega (arith, r₄.within, long)) in
+      text_is r₅ z e ∙ ap text_of (simp append_assoc)

@@ -1,24 +1,28 @@
 -- The words of a line, and how long it can be.
+use Rattle.std.specs.Prelude.{Option, None, Some}
 use mathlib.Core.Bool.{Bool, true, false}
 use mathlib.Core.List.{List, [], ◌++◌, append_assoc}
-use mathlib.Core.Option.{Option, none, some}
-use mathlib.Core.Path.{◌≡◌}
-use Prim.Native.Nat.{ℕ, ◌+◌, ◌≤◌}
+use mathlib.Core.Path.{◌≡◌, sym, subst}
+use Prim.Native.Nat.{ℕ, ◌+◌, ◌*◌, ◌≤◌, ◌<◌}
 use native.Mathlib.Omega.{arith}
 use lib.IntN.{ℤ}
-use lib.ListN.{length, length-append}
+use lib.ListN.{length, length-append, take, get_or}
 use Rattle.model.specs.Lists.{Lists}
 use Rattle.model.specs.Lookups.{active_zone, active_offset, usable}
 use Rattle.model.specs.Schedule.{decimal, signed_decimal, offset_or_dash, yes_or_no, space, new_line, line}
 use Rattle.text.proofs.Digits.{decimal_length}
 use Rattle.text.proofs.Signs.{signed_length}
-use Rattle.text.proofs.Runs.{Written, Run, no_word, run_as, word}
+use Rattle.text.specs.declared.Writer.{Writer}
+use Rattle.text.specs.Written.{Wrote}
+use Rattle.word.proofs.Writes.{all_more}
+use Rattle.model.specs.Bytes.{all_bytes}
+use Rattle.text.proofs.Runs.{Run, no_word, run_as, more, wrote, wrote_as}
 
 -- ## Lengths
 
 pub offset_length : (o : Option ℤ) → length (offset_or_dash o) ≤ 21
-offset_length none = omega arith
-offset_length (some z) = signed_length z
+offset_length None = omega arith
+offset_length (Some z) = signed_length z
 
 pub yes_length : (b : Bool) → length (yes_or_no b) ≤ 3
 yes_length true = omega arith
@@ -53,18 +57,33 @@ module _ (l : Lists) (m : ℕ) where
       )
 
   -- eight words, each after the one before
-  module _ (s : List ℕ) (at : ℕ) (room : at + 69 ≤ length s) (z : ℤ) (o : Option ℤ) (b : Bool) (e : z ≡ (active_zone l m).offset) (f : o ≡ active_offset l m) (g : b ≡ usable l m) where
-    pub line_run : (s₁ : List ℕ) (n₁ : ℕ) → Written s at (decimal m) s₁ n₁ → (s₂ : List ℕ) (n₂ : ℕ) → Written s₁ n₁ space s₂ n₂
-        → (s₃ : List ℕ) (n₃ : ℕ) → Written s₂ n₂ (signed_decimal z) s₃ n₃ → (s₄ : List ℕ) (n₄ : ℕ) → Written s₃ n₃ space s₄ n₄
-        → (s₅ : List ℕ) (n₅ : ℕ) → Written s₄ n₄ (offset_or_dash o) s₅ n₅ → (s₆ : List ℕ) (n₆ : ℕ) → Written s₅ n₅ space s₆ n₆
-        → (s₇ : List ℕ) (n₇ : ℕ) → Written s₆ n₆ (yes_or_no b) s₇ n₇ → (s₈ : List ℕ) (n₈ : ℕ) → Written s₇ n₇ new_line s₈ n₈
-        → Run s at (line l m) s₈ n₈ (at + 20 + 1 + 21 + 1 + 21 + 1 + 3 + 1)
-    line_run s₁ n₁ w₁ s₂ n₂ w₂ s₃ n₃ w₃ s₄ n₄ w₄ s₅ n₅ w₅ s₆ n₆ w₆ s₇ n₇ w₇ s₈ n₈ w₈ =
-        let r₁ = word s at (no_word s at (omega arith)) (decimal m) s₁ n₁ 20 w₁ (decimal_length m) (omega arith) in
-        let r₂ = word s at r₁ space s₂ n₂ 1 w₂ (omega arith) (omega arith) in
-        let r₃ = word s at r₂ (signed_decimal z) s₃ n₃ 21 w₃ (signed_length z) (omega arith) in
-        let r₄ = word s at r₃ space s₄ n₄ 1 w₄ (omega arith) (omega arith) in
-        let r₅ = word s at r₄ (offset_or_dash o) s₅ n₅ 21 w₅ (offset_length o) (omega arith) in
-        let r₆ = word s at r₅ space s₆ n₆ 1 w₆ (omega arith) (omega arith) in
-        let r₇ = word s at r₆ (yes_or_no b) s₇ n₇ 3 w₇ (yes_length b) (omega arith) in
-        run_as s at (as_line z o b e f g) (word s at r₇ new_line s₈ n₈ 1 w₈ (omega arith) (omega arith))
+  module _ {w w₁ w₂ w₃ w₄ w₅ w₆ w₇ w₈ : Writer} (room : w.at + 69 ≤ length w.out.now) (z : ℤ) (o : Option ℤ) (b : Bool) (e : z ≡ (active_zone l m).offset) (f : o ≡ active_offset l m) (g : b ≡ usable l m) where
+    pub line_wrote : Wrote w w₁ (decimal m) → Wrote w₁ w₂ space → Wrote w₂ w₃ (signed_decimal z) → Wrote w₃ w₄ space
+        → Wrote w₄ w₅ (offset_or_dash o) → Wrote w₅ w₆ space → Wrote w₆ w₇ (yes_or_no b) → Wrote w₇ w₈ new_line → Wrote w w₈ (line l m)
+    line_wrote p₁ p₂ p₃ p₄ p₅ p₆ p₇ p₈ =
+        let r₁ = more (no_word (omega arith)) 20 p₁ (decimal_length m) (omega (arith, decimal_length m)) in
+        let r₂ = more r₁ 1 p₂ (omega arith) (omega (arith, r₁.within)) in
+        let r₃ = more r₂ 21 p₃ (signed_length z) (omega (arith, r₂.within, signed_length z)) in
+        let r₄ = more r₃ 1 p₄ (omega arith) (omega (arith, r₃.within)) in
+        let r₅ = more r₄ 21 p₅ (offset_length o) (omega (arith, r₄.within, offset_length o)) in
+        let r₆ = more r₅ 1 p₆ (omega arith) (omega (arith, r₅.within)) in
+        let r₇ = more r₆ 3 p₇ (yes_length b) (omega (arith, r₆.within, yes_length b)) in
+        wrote_as (as_line z o b e f g) (wrote (more r₇ 1 p₈ (omega arith) (omega (arith, r₇.within))))
+
+-- ## Lines
+
+module _ (l : Lists) (ms : List ℕ) (w : Writer) where
+  -- the lines of the first `i` moments
+  abbrev pub Lines : ℕ → Writer → Type 0
+  Lines i v = Run w v (all_bytes (line l) (take i ms)) (69 * i)
+
+  pub no_lines : w.at ≤ length w.out.now → Lines 0 w
+  unfolding all_bytes
+  no_lines h = no_word h
+
+  pub lines_more : {v x : Writer} (i : ℕ) → w.at + 69 * length ms ≤ length w.out.now → i < length ms → Lines i v → Wrote v x (line l (get_or ms i 0)) → Lines (i + 1) x
+  lines_more {v} {x} i room h r p =
+      let b = line_length l (get_or ms i 0) in
+      let e : 69 * i + 69 ≡ 69 * (i + 1) = omega arith in
+      let one = run_as (more r 69 p b (omega (arith, r.within, b))) (sym (all_more (line l) ms i 0 h)) in
+      subst (λ (k : ℕ). Run w x (all_bytes (line l) (take (i + 1) ms)) k) e one

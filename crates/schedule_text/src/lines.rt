@@ -1,70 +1,59 @@
 // The lines of the schedule, one for each walked moment.
-ghost use Rattle.std.specs.Prelude.{◌≡◌, suc, ◌+◌, ◌≤◌, length, take};
+ghost use Rattle.std.specs.Prelude.{◌+◌, ◌*◌, ◌≤◌, length};
 ghost use Rattle.model.specs.Bytes.{all_bytes};
-ghost use Rattle.model.specs.Maybe.{option_i32};
 ghost use Rattle.model.specs.Schedule.{offset_or_dash, yes_or_no, line};
-ghost use Rattle.word.specs.Place.{put, placed};
-ghost use Rattle.text.specs.Written.{after};
+ghost use Rattle.text.specs.Written.{Wrote};
 ghost use Rattle.table.specs.Layout.{lists_in};
 
-use lookups::Walk;
 use lookups::windows::{active_dst_offset, dst_usable};
 use lookups::zones::zone_offset;
-use model::MaybeI32;
-use text::{put_decimal, put_signed, put_word};
-use word::least;
+use text::Writer;
 
-// The longest walk.
-const MOST_STEPS: usize = 40;
+// The longest line: a moment, two offsets, `yes`, the spaces between them and a line feed.
+pub(crate) const MOST_LINE: usize = 69;
 
 // Writes an offset, and `-` where there is none.
-fn put_offset(out: &mut [u8], at: usize, offset: MaybeI32) -> usize
-    ensures { (out.new ≡ placed out.old at (offset_or_dash (option_i32 offset))) × (result ≡ after out.old at (offset_or_dash (option_i32 offset))) }
+fn put_offset(out: &mut Writer, offset: Option<i32>)
+    ensures { Wrote out.old out.new (offset_or_dash offset) }
 {
     match offset {
-        MaybeI32::Nothing => put_word(out, at, b"-"),
-        MaybeI32::Is(seconds) => put_signed(out, at, seconds),
+        None => out.word(b"-"),
+        Some(seconds) => out.signed(seconds),
     }
 }
 
 // Writes `yes` or `no`.
-fn put_yes_or_no(out: &mut [u8], at: usize, yes: bool) -> usize
-    ensures { (out.new ≡ placed out.old at (yes_or_no yes)) × (result ≡ after out.old at (yes_or_no yes)) }
+fn put_yes_or_no(out: &mut Writer, yes: bool)
+    ensures { Wrote out.old out.new (yes_or_no yes) }
 {
     if yes {
-        return put_word(out, at, b"yes");
+        out.word(b"yes")
+    } else {
+        out.word(b"no")
     }
-    put_word(out, at, b"no")
 }
 
 // Writes what a reader sees from a moment on: the zone's offset, the active window's and whether a window is usable.
-fn put_line(out: &mut [u8], at: usize, table: &[u8], moment: u64) -> usize
-    requires { at + 69 ≤ length out.old }
-    ensures { (out.new ≡ put out.old at (line (lists_in table.now) moment)) × (result ≡ at + length (line (lists_in table.now) moment)) }
+fn put_line(out: &mut Writer, table: &[u8], moment: u64)
+    requires { out.old.at + 69 ≤ length out.old.out.now }
+    ensures { Wrote out.old out.new (line (lists_in table.now) moment) }
 {
-    let mut next = put_decimal(out, at, moment);
-    next = put_word(out, next, b" ");
-    next = put_signed(out, next, zone_offset(table, moment));
-    next = put_word(out, next, b" ");
-    next = put_offset(out, next, active_dst_offset(table, moment));
-    next = put_word(out, next, b" ");
-    next = put_yes_or_no(out, next, dst_usable(table, moment));
-    put_word(out, next, b"\n")
+    out.decimal(moment);
+    out.word(b" ");
+    out.signed(zone_offset(table, moment));
+    out.word(b" ");
+    put_offset(out, active_dst_offset(table, moment));
+    out.word(b" ");
+    put_yes_or_no(out, dst_usable(table, moment));
+    out.word(b"\n");
 }
 
-// Writes a line for each moment of a walk.
-pub(crate) fn put_lines(out: &mut [u8], at: usize, table: &[u8], walk: Walk) -> usize
-    requires { at + 2829 ≤ length out.old }
-    ensures { (out.new ≡ put out.old at (all_bytes (line (lists_in table.now)) (take (suc walk.steps) walk.moments)))
-        × (result ≡ at + length (all_bytes (line (lists_in table.now)) (take (suc walk.steps) walk.moments))) }
+// Writes a line for each moment.
+pub(crate) fn put_lines(out: &mut Writer, table: &[u8], moments: &[u64])
+    requires { out.old.at + 69 * length moments.now ≤ length out.old.out.now }
+    ensures { Wrote out.old out.new (all_bytes (line (lists_in table.now)) moments.now) }
 {
-    let n = least(walk.steps, MOST_STEPS) + 1;
-    let mut next = at;
-    let mut i: usize = 0;
-    while i < n {
-        let moment = walk.moments[i];
-        next = put_line(out, next, table, moment);
-        i += 1;
+    for &moment in moments {
+        put_line(out, table, moment);
     }
-    next
 }

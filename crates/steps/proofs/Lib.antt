@@ -1,3 +1,2 @@
 pub mod Looks
 pub mod Returned
-pub mod Steps

@@ -1,6 +1,5 @@
 -- What a look of the timer and a step of the client answer, ask for and leave in an image.
-use Rattle.std.specs.Prelude.{Bool, false, cond, List, [], ◌∷◌, map, ℕ, eqb, ℤ, length}
-use Rattle.std.proofs.Math.Option.{Option, none}
+use Rattle.std.specs.Prelude.{Bool, false, cond, List, [], ◌∷◌, map, ℕ, eqb, ℤ, length, Option, None}
 use Rattle.model.specs.Lists.{Name}
 use Rattle.model.specs.Answers.{Answer, answers, number_of, Event, DSTTableEmpty, DSTStatus, TimeZoneStatus, TimeFailure, MissingTrustedTimeSource, Effect, emit}
 use Rattle.model.specs.Codes.{returned}
@@ -19,7 +18,7 @@ use Rattle.image.specs.Asked.{asked}
 
 -- the zone that TimeZoneStatus tells; offset 0 and no name where it is not emitted
 abbrev pub zone_told : List Event → ZoneNow
-zone_told [] = zone_now none
+zone_told [] = zone_now None
 zone_told (TimeZoneStatus offset name ∷ es) = record { offset = offset; name = name }
 zone_told (DSTTableEmpty ∷ es) = zone_told es
 zone_told (DSTStatus active ∷ es) = zone_told es

@@ -13,10 +13,7 @@ pub(crate) fn with_first(due: bool, code: u64, rest: u64) -> u64
     ensures value { result ≡ cond due (code + 256 * rest) rest }
     ensures below { result ≤ 255 + 256 * rest }
 {
-    if due {
-        return code + BYTE * rest;
-    }
-    rest
+    if due { code + BYTE * rest } else { rest }
 }
 
 // What a step that was taken returns: 0 and the codes.

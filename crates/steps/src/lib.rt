@@ -1,4 +1,5 @@
 // The timer's look and the client's two steps on an image.
+// Marks, codes and numbers that the caller lends stand in their signatures, since the entry points for C hand them on.
 #![tactic(auto)]
 
 pub mod client;

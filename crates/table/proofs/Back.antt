@@ -1,6 +1,6 @@
 -- An entry that is written in its place reads back, and what is read of it depends on its place alone.
+use Rattle.std.specs.Prelude.{Option, None, Some}
 use Rattle.std.proofs.Common.{◌≡◌, ℕ, ◌+◌, ◌^◌, ◌<◌, ◌≤◌, min, Bool, cond, not, eqb, List, [], ◌∷◌, ◌++◌, length, get_or, take, drop, sym, refl, ap, ◌∙◌, arith, get_or-drop, take_all, drop-drop}
-use mathlib.Core.Option.{Option, none, some}
 use Rattle.model.specs.Lists.{Name, Zone, Window}
 use Rattle.model.specs.Bytes.{bytes, number, bits_of, signed, name_bytes, zone_bytes, until_bytes, window_bytes}
 use Rattle.model.specs.RoundTrip.{ZoneFits, WindowFits, IsUntil}
@@ -21,14 +21,14 @@ module _ (s t : List ℕ) (p : ℕ) where
       let e : name_at t p ≡ name_at s p
       = ap (λ (k : ℕ). take (min k 64) (drop (p + 14) t)) (same_byte a (p + 13) (omega arith) (omega arith)) ∙ same_part a (min (byte_at s (p + 13)) 64) (p + 14) (omega arith) (omega arith) in
       zone_parts (ap signed (same_word a 4 p (omega arith) (omega arith))) (same_word a 8 (p + 4) (omega arith) (omega arith))
-      (ap (λ (b : ℕ). cond (not (eqb b 0)) (some (name_at t p)) none) (same_byte a (p + 12) (omega arith) (omega arith))
-      ∙ ap (λ (m : Name). cond (mark_at s (p + 12)) (some m) none) e)
+      (ap (λ (b : ℕ). cond (not (eqb b 0)) (Some (name_at t p)) None) (same_byte a (p + 12) (omega arith) (omega arith))
+      ∙ ap (λ (m : Name). cond (mark_at s (p + 12)) (Some m) None) e)
 
   pub window_local : Alike p (p + 21) s t → window_at t p ≡ window_at s p
   window_local a =
       window_parts (ap signed (same_word a 4 p (omega arith) (omega arith))) (same_word a 8 (p + 4) (omega arith) (omega arith))
-      (ap (λ (b : ℕ). cond (not (eqb b 0)) (some (word_at 8 t (p + 13))) none) (same_byte a (p + 12) (omega arith) (omega arith))
-      ∙ ap (λ (e : ℕ). cond (mark_at s (p + 12)) (some e) none) (same_word a 8 (p + 13) (omega arith) (omega arith)))
+      (ap (λ (b : ℕ). cond (not (eqb b 0)) (Some (word_at 8 t (p + 13))) None) (same_byte a (p + 12) (omega arith) (omega arith))
+      ∙ ap (λ (e : ℕ). cond (mark_at s (p + 12)) (Some e) None) (same_word a 8 (p + 13) (omega arith) (omega arith)))
 
 -- ## How long the entries are
 
@@ -41,15 +41,15 @@ pub zone_short : (z : Zone) → ZoneGood z → length (zone_bytes z) ≤ 78
 zone_short z g = omega (arith, entry_long (bits_of z.offset) z.start (name_bytes z.name), go z.name g.room)
   where
     go : (n : Option Name) → NameRoom n → length (name_bytes n) ≤ 66
-    go none h = omega arith
-    go (some n) h = omega (arith, h)
+    go None h = omega arith
+    go (Some n) h = omega (arith, h)
 
 pub window_short : (w : Window) → WindowFits w → length (window_bytes w) ≤ 21
 window_short w g = omega (arith, entry_long (bits_of w.offset) w.start (until_bytes w.until), go w.until)
   where
     go : (u : Option ℕ) → length (until_bytes u) ≤ 9
-    go none = omega arith
-    go (some e) = omega (arith, length_bytes 8 e)
+    go None = omega arith
+    go (Some e) = omega (arith, length_bytes 8 e)
 
 -- ## An entry read back
 
@@ -86,30 +86,30 @@ module _ (s : List ℕ) (p o t : ℕ) (more : List ℕ) (h : p + length (bytes 4
 
 name_back : (s : List ℕ) (p o t : ℕ) (name : Option Name) → NameRoom name → (h : p + length (bytes 4 o ++ (bytes 8 t ++ name_bytes name)) ≤ length s)
     → let u = placed s p (bytes 4 o ++ (bytes 8 t ++ name_bytes name)) in
-    cond (mark_at u (p + 12)) (some (name_at u p)) none ≡ name
-name_back s p o t none r h =
+    cond (mark_at u (p + 12)) (Some (name_at u p)) None ≡ name
+name_back s p o t None r h =
     let u = written s p o t (0 ∷ []) h in
-    ap (λ (b : Bool). cond b (some (name_at u p)) none) (mark_clear u (p + 12) 0 (sym (byte_behind s p o t (0 ∷ []) h (p + 12) 0 (omega arith) (omega arith))) refl)
-name_back s p o t (some n) r h =
+    ap (λ (b : Bool). cond b (Some (name_at u p)) None) (mark_clear u (p + 12) 0 (sym (byte_behind s p o t (0 ∷ []) h (p + 12) 0 (omega arith) (omega arith))) refl)
+name_back s p o t (Some n) r h =
     let more : List ℕ = 1 ∷ length n ∷ n in
     let u = written s p o t more h in
     let l : byte_at u (p + 13) ≡ length n = byte_behind s p o t more h (p + 13) 1 (omega arith) (omega arith) in
     let m : min (byte_at u (p + 13)) 64 ≡ length n = omega (arith, r) in
-    ap (λ (b : Bool). cond b (some (name_at u p)) none) (mark_set u (p + 12) 1 (sym (byte_behind s p o t more h (p + 12) 0 (omega arith) (omega arith))) (λ q. omega arith))
-    ∙ ap (λ (k : ℕ). some (take k (drop (p + 14) u))) m
-    ∙ ap (λ (x : Name). some x) (part_behind s p o t more h (length n) (p + 14) 2 (omega arith) (omega arith) ∙ take_all (length n) n (omega arith))
+    ap (λ (b : Bool). cond b (Some (name_at u p)) None) (mark_set u (p + 12) 1 (sym (byte_behind s p o t more h (p + 12) 0 (omega arith) (omega arith))) (λ q. omega arith))
+    ∙ ap (λ (k : ℕ). Some (take k (drop (p + 14) u))) m
+    ∙ ap (λ (x : Name). Some x) (part_behind s p o t more h (length n) (p + 14) 2 (omega arith) (omega arith) ∙ take_all (length n) n (omega arith))
 
 until_back : (s : List ℕ) (p o t : ℕ) (until : Option ℕ) → IsUntil until → (h : p + length (bytes 4 o ++ (bytes 8 t ++ until_bytes until)) ≤ length s)
     → maybe_at (placed s p (bytes 4 o ++ (bytes 8 t ++ until_bytes until))) (p + 12) (p + 13) ≡ until
-until_back s p o t none r h =
+until_back s p o t None r h =
     let u = written s p o t (0 ∷ []) h in
-    ap (λ (b : Bool). cond b (some (word_at 8 u (p + 13))) none) (mark_clear u (p + 12) 0 (sym (byte_behind s p o t (0 ∷ []) h (p + 12) 0 (omega arith) (omega arith))) refl)
-until_back s p o t (some e) r h =
+    ap (λ (b : Bool). cond b (Some (word_at 8 u (p + 13))) None) (mark_clear u (p + 12) 0 (sym (byte_behind s p o t (0 ∷ []) h (p + 12) 0 (omega arith) (omega arith))) refl)
+until_back s p o t (Some e) r h =
     let more : List ℕ = 1 ∷ bytes 8 e in
     let u = written s p o t more h in
     let l = length_bytes 8 e in
-    ap (λ (b : Bool). cond b (some (word_at 8 u (p + 13))) none) (mark_set u (p + 12) 1 (sym (byte_behind s p o t more h (p + 12) 0 (omega arith) (omega arith))) (λ q. omega arith))
-    ∙ ap (λ (k : ℕ). some k) (word_behind s p o t more h 8 (p + 13) 1 (omega arith) (omega arith) ∙ ap number (take_all 8 (bytes 8 e) (omega arith)) ∙ number_bytes 8 e r)
+    ap (λ (b : Bool). cond b (Some (word_at 8 u (p + 13))) None) (mark_set u (p + 12) 1 (sym (byte_behind s p o t more h (p + 12) 0 (omega arith) (omega arith))) (λ q. omega arith))
+    ∙ ap (λ (k : ℕ). Some k) (word_behind s p o t more h 8 (p + 13) 1 (omega arith) (omega arith) ∙ ap number (take_all 8 (bytes 8 e) (omega arith)) ∙ number_bytes 8 e r)
 
 pub zone_back : (s : List ℕ) (p : ℕ) (z : Zone) → ZoneGood z → p + length (zone_bytes z) ≤ length s → zone_at (placed s p (zone_bytes z)) p ≡ z
 zone_back s p z g h =

@@ -1,6 +1,6 @@
 -- The record of a table has at most 962 bytes.
+use Rattle.std.specs.Prelude.{None, Some}
 use Rattle.std.proofs.Common.{◌≡◌, ℕ, zero, suc, ◌+◌, ◌*◌, ◌≤◌, min, Bool, true, false, cond, List, ◌++◌, length, drop, arith, length-append, length-drop, length-take}
-use mathlib.Core.Option.{none, some}
 use Rattle.model.specs.Bytes.{bytes, bits_of, signed, name_bytes, until_bytes, zone_bytes, window_bytes, all_bytes, zones_bytes, windows_bytes, record_bytes}
 use Rattle.model.proofs.Words.{length_bytes}
 use Rattle.word.specs.Place.{byte_at, word_at}
@@ -11,16 +11,16 @@ use Rattle.table.proofs.Parts.{entry_long, mark_clear, mark_set}
 pub zone_most : (s : List ℕ) (p : ℕ) → length (zone_bytes (zone_at s p)) ≤ 78
 zone_most s p = go (mark_at s (p + 12))
   where
-    go : (b : Bool) → length (bytes 4 (bits_of (signed (word_at 4 s p))) ++ (bytes 8 (word_at 8 s (p + 4)) ++ name_bytes (cond b (some (name_at s p)) none))) ≤ 78
-    go true = omega (arith, entry_long (bits_of (signed (word_at 4 s p))) (word_at 8 s (p + 4)) (name_bytes (some (name_at s p))), length-take (min (byte_at s (p + 13)) 64) (drop (p + 14) s))
-    go false = omega (arith, entry_long (bits_of (signed (word_at 4 s p))) (word_at 8 s (p + 4)) (name_bytes none))
+    go : (b : Bool) → length (bytes 4 (bits_of (signed (word_at 4 s p))) ++ (bytes 8 (word_at 8 s (p + 4)) ++ name_bytes (cond b (Some (name_at s p)) None))) ≤ 78
+    go true = omega (arith, entry_long (bits_of (signed (word_at 4 s p))) (word_at 8 s (p + 4)) (name_bytes (Some (name_at s p))), length-take (min (byte_at s (p + 13)) 64) (drop (p + 14) s))
+    go false = omega (arith, entry_long (bits_of (signed (word_at 4 s p))) (word_at 8 s (p + 4)) (name_bytes None))
 
 window_most : (s : List ℕ) (p : ℕ) → length (window_bytes (window_at s p)) ≤ 21
 window_most s p = go (mark_at s (p + 12))
   where
-    go : (b : Bool) → length (bytes 4 (bits_of (signed (word_at 4 s p))) ++ (bytes 8 (word_at 8 s (p + 4)) ++ until_bytes (cond b (some (word_at 8 s (p + 13))) none))) ≤ 21
-    go true = omega (arith, entry_long (bits_of (signed (word_at 4 s p))) (word_at 8 s (p + 4)) (until_bytes (some (word_at 8 s (p + 13)))), length_bytes 8 (word_at 8 s (p + 13)))
-    go false = omega (arith, entry_long (bits_of (signed (word_at 4 s p))) (word_at 8 s (p + 4)) (until_bytes none))
+    go : (b : Bool) → length (bytes 4 (bits_of (signed (word_at 4 s p))) ++ (bytes 8 (word_at 8 s (p + 4)) ++ until_bytes (cond b (Some (word_at 8 s (p + 13))) None))) ≤ 21
+    go true = omega (arith, entry_long (bits_of (signed (word_at 4 s p))) (word_at 8 s (p + 4)) (until_bytes (Some (word_at 8 s (p + 13)))), length_bytes 8 (word_at 8 s (p + 13)))
+    go false = omega (arith, entry_long (bits_of (signed (word_at 4 s p))) (word_at 8 s (p + 4)) (until_bytes None))
 
 all_most : {A : Type 0} (f : ℕ → A) (entry_bytes : A → List ℕ) (most : ℕ) → ((i : ℕ) → length (entry_bytes (f i)) ≤ most) → (i n : ℕ) → length (all_bytes entry_bytes (entries_from f i n)) ≤ most * n
 unfolding all_bytes entries_from
@@ -43,11 +43,11 @@ record_most_lem s =
 module _ (s : List ℕ) (p m : ℕ) (e : m ≡ byte_at s (p + 12)) where
   pub unnamed_long : m ≡ 0 → length (zone_bytes (zone_at s p)) ≡ 13
   unnamed_long z =
-      rw (mark_clear s (p + 12) m e z) (entry_long (bits_of (signed (word_at 4 s p))) (word_at 8 s (p + 4)) (name_bytes none))
+      rw (mark_clear s (p + 12) m e z) (entry_long (bits_of (signed (word_at 4 s p))) (word_at 8 s (p + 4)) (name_bytes None))
 
   pub named_long : (m ≡ 0 → ⊥) → length (zone_bytes (zone_at s p)) ≡ 14 + length (name_at s p)
   named_long z =
-      rw (mark_set s (p + 12) m e z) (omega (arith, entry_long (bits_of (signed (word_at 4 s p))) (word_at 8 s (p + 4)) (name_bytes (some (name_at s p)))))
+      rw (mark_set s (p + 12) m e z) (omega (arith, entry_long (bits_of (signed (word_at 4 s p))) (word_at 8 s (p + 4)) (name_bytes (Some (name_at s p)))))
 
 -- all of a name stands in a table
 pub name_long : (s : List ℕ) (p : ℕ) → p + 78 ≤ length s → length (name_at s p) ≡ min (byte_at s (p + 13)) 64

@@ -1,6 +1,6 @@
 -- A table follows the model's list store, call by call.
+use Rattle.std.specs.Prelude.{Option, None, Some, Result, Ok, Err}
 use Rattle.std.proofs.Common.{◌≡◌, ℕ, suc, ◌+◌, ◌<◌, ◌≤◌, Bool, true, false, cond, leb, List, [], ◌∷◌, length, get_or, sym, refl, ap, ◌∙◌, arith, lit<, leb-true}
-use mathlib.Core.Option.{Option, none, some}
 use Rattle.model.specs.declared.Refusal.{Refusal}
 use Rattle.model.specs.declared.Refusal.TheVariants as R
 use Rattle.model.specs.Lists.{Name, Zone, Window, Lists, empty}
@@ -15,8 +15,6 @@ use Rattle.model.proofs.Facts.{by_test}
 use Rattle.model.proofs.Accepted.{entry, zone_meets, zones_fit, windows_fit, record_accepted, no_zones}
 use Rattle.model.proofs.ReadBack as B
 use Rattle.model.proofs.Stored.{limits}
-use Rattle.rules.specs.declared.Verdict.{Verdict}
-use Rattle.rules.specs.declared.Verdict.TheVariants as Said
 use Rattle.rules.specs.Verdicts.{verdict_of, record_tested}
 use Rattle.rules.proofs.Agree.{zones_are_lem, windows_are_lem}
 use Rattle.word.specs.Place.{byte_at}
@@ -34,18 +32,18 @@ use Rattle.table.proofs.Heads.{rules_parts, lists_parts, store_parts, windows_he
 -- ## Accepted names have room
 
 name_room : (n : Option Name) → name_fits n ≡ true → NameRoom n
-name_room none h = tt
-name_room (some n) h = leb-true (length n) 64 h
+name_room None h = tt
+name_room (Some n) h = leb-true (length n) 64 h
 
 names_from : (limit index : ℕ) (before : Option Zone) (zs : List Zone) → test_from limit zone_rule index before zs ≡ M.accepted → NamesRoom zs
 names_from limit index before [] h = tt
 names_from limit index before (z ∷ zs) h =
     let e = entry limit zone_rule index before z zs h in
-    (name_room z.name (zone_meets index before z e.meets).name_fits_lem, names_from limit (suc index) (some z) zs e.rest)
+    (name_room z.name (zone_meets index before z e.meets).name_fits_lem, names_from limit (suc index) (Some z) zs e.rest)
 
 names_room : (r : Rules) (zs : List Zone) → test_zones r zs ≡ M.accepted → NamesRoom zs
 unfolding test_zones
-names_room r zs h = names_from r.zone_limit 0 none zs h
+names_room r zs h = names_from r.zone_limit 0 None zs h
 
 -- ## Windows that are turned down for what they say
 
@@ -71,7 +69,7 @@ from_empties : (limit index : ℕ) (before : Option Window) (ws : List Window) �
 unfolding test_from
 from_empties limit index before [] = tt
 from_empties limit index before (w ∷ ws) =
-    demanded _ R.ResourceExhausted _ refl (both (window_rule index before w) _ (rule_empties index before w) (from_empties limit (suc index) (some w) ws))
+    demanded _ R.ResourceExhausted _ refl (both (window_rule index before w) _ (rule_empties index before w) (from_empties limit (suc index) (Some w) ws))
 
 turned_down_lem : (v : M.Verdict) → Emptying v → (cause : Refusal) → v ≡ M.turned_down cause → empties cause ≡ true
 turned_down_lem M.accepted h cause e = let z : ◌≡◌ {A = ℕ} 0 1 = cc in absurd (omega arith)
@@ -79,7 +77,7 @@ turned_down_lem (M.turned_down other) h cause e = let q : other ≡ cause = cc i
 
 windows_empty : (r : Rules) (ws : List Window) (cause : Refusal) → test_windows r ws ≡ M.turned_down cause → empties cause ≡ true
 unfolding test_windows
-windows_empty r ws = turned_down_lem (test_from r.window_limit window_rule 0 none ws) (from_empties r.window_limit 0 none ws)
+windows_empty r ws = turned_down_lem (test_from r.window_limit window_rule 0 None ws) (from_empties r.window_limit 0 None ws)
 
 -- ## Lists that are accepted, written
 
@@ -110,7 +108,7 @@ module _ (s b : List ℕ) (room : ℕ) (h : table_size ≤ length s) (c : AreByt
   unfolding store_after_sized store_after set_time_zone
   zones_after v e = ap (λ (w : M.Verdict). cond short (store_in s) (time_zone_set (store_in s) b w).state) e
 
-  zones_kept : (cause : Refusal) → time_zone_said s b room ≡ Said.TurnedDown cause → store_in (time_zone_left s b room) ≡ store_in s
+  zones_kept : (cause : Refusal) → time_zone_said s b room ≡ Err cause → store_in (time_zone_left s b room) ≡ store_in s
   zones_kept cause e = ap store_in (sym (zones_stay s b room cause e).1)
 
   module _ (e : verdict (rules_in s) (SetTimeZone b) ≡ M.accepted) where
@@ -121,7 +119,7 @@ module _ (s b : List ℕ) (room : ℕ) (h : table_size ≤ length s) (c : AreByt
         let q = zones_requested (rules_in s).zone_limit b c a in
         let l : Lists = record { zones = q.list; windows = [] } in
         let f = (B.zones_written b q.list c q.is).1 in
-        ap store_in (ap (λ (v : Verdict). zones_left v (read_zones b) s) (zones_said s b room Said.Accepted false a k) ∙ ap (λ (o : Option (List Zone)). zones_left Said.Accepted o s) q.is)
+        ap store_in (ap (λ (v : Result (Unit {0}) Refusal). zones_left v (read_zones b) s) (zones_said s b room (Ok tt) false a k) ∙ ap (λ (o : Option (List Zone)). zones_left (Ok tt) o s) q.is)
         ∙ changed s (with_lists s l) l h (lists_head s l) (lists_back s (rules_in s) l h (omega arith) (zones_pass (rules_in s) b q.list q.is e) (omega arith) (record { zones = f; windows = no_windows_fit }))
         ∙ store_parts refl (sym (zones_taken_lem (rules_in s) b (lists_in s) q.list q.is e)) refl
 
@@ -130,12 +128,12 @@ time_zone_follows s b room h c = go (verdict (rules_in s) (SetTimeZone b)) refl
   where
     go : (v : M.Verdict) → verdict (rules_in s) (SetTimeZone b) ≡ v → store_in (time_zone_left s b room) ≡ store_after_sized (store_in s) (record { call = SetTimeZone b; room = room })
     go (M.turned_down cause) e =
-        zones_kept s b room h c cause (zones_said s b room (Said.TurnedDown cause) (zones_short s b room) (zones_are_lem (rules_in s) b ∙ ap verdict_of e) refl)
+        zones_kept s b room h c cause (zones_said s b room (Err cause) (zones_short s b room) (zones_are_lem (rules_in s) b ∙ ap verdict_of e) refl)
         ∙ sym (zones_after s b room h c (M.turned_down cause) e ∙ cond_same (zones_short s b room) (store_in s))
     go M.accepted e =
         by_test (zones_short s b room)
         (λ k.
-        zones_kept s b room h c R.NoSpace (zones_said s b room Said.Accepted true (zones_are_lem (rules_in s) b ∙ ap verdict_of e) k)
+        zones_kept s b room h c R.NoSpace (zones_said s b room (Ok tt) true (zones_are_lem (rules_in s) b ∙ ap verdict_of e) k)
         ∙ sym (zones_after s b room h c M.accepted e ∙ ap (λ (x : Bool). cond x (store_in s) (changed_by (store_in s) (SetTimeZone b))) k))
         (λ k. taken s b room h c e k ∙ sym (zones_after s b room h c M.accepted e ∙ ap (λ (x : Bool). cond x (store_in s) (changed_by (store_in s) (SetTimeZone b))) k))
 
@@ -148,18 +146,18 @@ module _ (s b : List ℕ) (room : ℕ) (h : table_size ≤ length s) (c : AreByt
   unfolding store_after_sized store_after set_dst_offset
   windows_after o e = ap (λ (p : Option (List Window)). cond (windows_short s b room) (store_in s) (windows_read (store_in s) b p).state) e
 
-  windows_kept : (cause : Refusal) → dst_offset_said s b room ≡ Said.TurnedDown cause → empties cause ≡ false → store_in (dst_offset_left s b room) ≡ store_in s
+  windows_kept : (cause : Refusal) → dst_offset_said s b room ≡ Err cause → empties cause ≡ false → store_in (dst_offset_left s b room) ≡ store_in s
   unfolding dst_offset_left
   windows_kept cause e k = ap store_in (sym (windows_stay s (dst_offset_said s b room) cause (read_windows b) (sym e) k))
 
-  unread : read_windows b ≡ none → store_in (dst_offset_left s b room) ≡ store_after_sized (store_in s) (record { call = SetDSTOffset b; room = room })
+  unread : read_windows b ≡ None → store_in (dst_offset_left s b room) ≡ store_after_sized (store_in s) (record { call = SetDSTOffset b; room = room })
   unfolding verdict
   unread e =
       let v : verdict (rules_in s) (SetDSTOffset b) ≡ M.turned_down R.Unreadable = ap (windows_verdict (rules_in s)) e in
-      windows_kept R.Unreadable (windows_said s b room (Said.TurnedDown R.Unreadable) (windows_short s b room) (windows_are_lem (rules_in s) b ∙ ap verdict_of v) refl) refl
-      ∙ sym (windows_after none e ∙ cond_same (windows_short s b room) (store_in s))
+      windows_kept R.Unreadable (windows_said s b room (Err R.Unreadable) (windows_short s b room) (windows_are_lem (rules_in s) b ∙ ap verdict_of v) refl) refl
+      ∙ sym (windows_after None e ∙ cond_same (windows_short s b room) (store_in s))
 
-  module _ (ws : List Window) (e : read_windows b ≡ some ws) where
+  module _ (ws : List Window) (e : read_windows b ≡ Some ws) where
     says : (v : M.Verdict) → test_windows (rules_in s) ws ≡ v → verdict (rules_in s) (SetDSTOffset b) ≡ v
     unfolding verdict
     says v a = ap (windows_verdict (rules_in s)) e ∙ a
@@ -171,7 +169,7 @@ module _ (s b : List ℕ) (room : ℕ) (h : table_size ≤ length s) (c : AreByt
 
     with_room_lem : windows_short s b room ≡ false → store_after_sized (store_in s) (record { call = SetDSTOffset b; room = room }) ≡ changed_by (store_in s) (SetDSTOffset b)
     with_room_lem k =
-        windows_after (some ws) e ∙ ap (λ (x : Bool). cond x (store_in s) (windows_tested (store_in s) b (test_windows (rules_in s) ws)).state) k
+        windows_after (Some ws) e ∙ ap (λ (x : Bool). cond x (store_in s) (windows_tested (store_in s) b (test_windows (rules_in s) ws)).state) k
         ∙ counts (test_windows (rules_in s) ws)
 
     -- the table that other windows leave
@@ -187,17 +185,17 @@ module _ (s b : List ℕ) (room : ℕ) (h : table_size ≤ length s) (c : AreByt
         let t = windows_are_lem (rules_in s) b ∙ ap verdict_of (says M.accepted a) in
         by_test (windows_short s b room)
         (λ k.
-        windows_kept R.NoSpace (windows_said s b room Said.Accepted true t k) refl
-        ∙ sym (windows_after (some ws) e ∙ ap (λ (x : Bool). cond x (store_in s) (windows_tested (store_in s) b (test_windows (rules_in s) ws)).state) k))
+        windows_kept R.NoSpace (windows_said s b room (Ok tt) true t k) refl
+        ∙ sym (windows_after (Some ws) e ∙ ap (λ (x : Bool). cond x (store_in s) (windows_tested (store_in s) b (test_windows (rules_in s) ws)).state) k))
         (λ k.
-        ap store_in (ap (λ (v : Verdict). windows_left v (read_windows b) s) (windows_said s b room Said.Accepted false t k) ∙ ap (λ (o : Option (List Window)). windows_left Said.Accepted o s) e)
+        ap store_in (ap (λ (v : Result (Unit {0}) Refusal). windows_left v (read_windows b) s) (windows_said s b room (Ok tt) false t k) ∙ ap (λ (o : Option (List Window)). windows_left (Ok tt) o s) e)
         ∙ left_with M.accepted ws a refl (omega (arith, windows_fit (rules_in s) ws a)) (B.windows_written b ws c e).1 ∙ sym (with_room_lem k))
     read (M.turned_down cause) a =
         let v = says (M.turned_down cause) a in
         let t = windows_are_lem (rules_in s) b ∙ ap verdict_of v in
-        let k : windows_short s b room ≡ false = ap (λ (w : M.Verdict). lacks_room room (if_accepted w (some (record_bytes (after (rules_in s) (lists_in s) (SetDSTOffset b)))) none)) v in
+        let k : windows_short s b room ≡ false = ap (λ (w : M.Verdict). lacks_room room (if_accepted w (Some (record_bytes (after (rules_in s) (lists_in s) (SetDSTOffset b)))) None)) v in
         ap store_in
-        (ap (λ (v : Verdict). windows_left v (read_windows b) s) (windows_said s b room (Said.TurnedDown cause) (windows_short s b room) t refl)
+        (ap (λ (v : Result (Unit {0}) Refusal). windows_left v (read_windows b) s) (windows_said s b room (Err cause) (windows_short s b room) t refl)
         ∙ ap (λ (x : Bool). cond x (counted (with_windows s [])) s) (windows_empty (rules_in s) ws cause a))
         ∙ left_with (M.turned_down cause) [] a refl (omega arith) no_windows_fit ∙ sym (with_room_lem k)
 
@@ -205,21 +203,21 @@ pub dst_offset_follows : DSTOffsetFollows
 dst_offset_follows s b room h c = go (read_windows b) refl
   where
     go : (o : Option (List Window)) → read_windows b ≡ o → store_in (dst_offset_left s b room) ≡ store_after_sized (store_in s) (record { call = SetDSTOffset b; room = room })
-    go none e = unread s b room h c e
-    go (some ws) e = read s b room h c ws e (test_windows (rules_in s) ws) refl
+    go None e = unread s b room h c e
+    go (Some ws) e = read s b room h c ws e (test_windows (rules_in s) ws) refl
 
 -- ## Load
 
-loaded_store : (s b : List ℕ) → table_size ≤ length s → AreBytes b → verdict (rules_in s) (Load (some b)) ≡ M.accepted
-    → store_in (lists_left Said.Accepted (read_record b) s) ≡ record { rules = rules_in s; lists = after (rules_in s) (lists_in s) (Load (some b)); generation = generation_in s }
+loaded_store : (s b : List ℕ) → table_size ≤ length s → AreBytes b → verdict (rules_in s) (Load (Some b)) ≡ M.accepted
+    → store_in (lists_left (Ok tt) (read_record b) s) ≡ record { rules = rules_in s; lists = after (rules_in s) (lists_in s) (Load (Some b)); generation = generation_in s }
 unfolding verdict after record_tested
 loaded_store s b h c e =
     let q = record_stored_lem (rules_in s).zone_limit (rules_in s).window_limit b c (ap verdict_of e) in
     let l = q.lists in
-    let a : record_verdict (rules_in s) (some l) ≡ M.accepted = sym (ap (record_verdict (rules_in s)) q.is) ∙ e in
+    let a : record_verdict (rules_in s) (Some l) ≡ M.accepted = sym (ap (record_verdict (rules_in s)) q.is) ∙ e in
     let k = record_accepted (rules_in s) l a in
     let p = lists_head s l in
-    ap (λ (o : Option Lists). store_in (lists_left Said.Accepted o s)) q.is
+    ap (λ (o : Option Lists). store_in (lists_left (Ok tt) o s)) q.is
     ∙ store_parts p.rules
     (lists_back s (rules_in s) l h (omega arith) k.zones (omega (arith, windows_fit (rules_in s) l.windows k.windows)) (B.record_written b l c q.is).1
     ∙ sym (ap (record_loaded (rules_in s) (lists_in s)) q.is ∙ ap (λ (v : M.Verdict). if_accepted v l (lists_in s)) a))
@@ -227,13 +225,13 @@ loaded_store s b h c e =
 
 pub load_follows : LoadFollows
 unfolding load_left load_said record_tested store_after load
-load_follows s b h c = go (verdict (rules_in s) (Load (some b))) refl
+load_follows s b h c = go (verdict (rules_in s) (Load (Some b))) refl
   where
-    loads : verdict (rules_in s) (Load (some b)) ≡ M.accepted → store_in (lists_left Said.Accepted (read_record b) s) ≡ (store_loaded (store_in s) (some b) M.accepted).state
+    loads : verdict (rules_in s) (Load (Some b)) ≡ M.accepted → store_in (lists_left (Ok tt) (read_record b) s) ≡ (store_loaded (store_in s) (Some b) M.accepted).state
     loads e = loaded_store s b h c e
 
-    go : (v : M.Verdict) → verdict (rules_in s) (Load (some b)) ≡ v
-        → store_in (lists_left (verdict_of (verdict (rules_in s) (Load (some b)))) (read_record b) s) ≡ (store_loaded (store_in s) (some b) (verdict (rules_in s) (Load (some b)))).state
+    go : (v : M.Verdict) → verdict (rules_in s) (Load (Some b)) ≡ v
+        → store_in (lists_left (verdict_of (verdict (rules_in s) (Load (Some b)))) (read_record b) s) ≡ (store_loaded (store_in s) (Some b) (verdict (rules_in s) (Load (Some b)))).state
     go M.accepted e = rw e (loads e)
     go (M.turned_down cause) e = rw e refl
 
@@ -283,24 +281,24 @@ new_follows s r h a =
 -- ## Lengths
 
 module _ (s : List ℕ) where
-  zones_long : (v : Verdict) (o : Option (List Zone)) → length (zones_left v o s) ≡ length s
-  zones_long Said.Accepted none = refl
-  zones_long Said.Accepted (some zs) = let l : Lists = record { zones = zs; windows = [] } in length_counted (with_lists s l) ∙ (lists_head s l).long
-  zones_long (Said.TurnedDown cause) o = refl
+  zones_long : (v : Result (Unit {0}) Refusal) (o : Option (List Zone)) → length (zones_left v o s) ≡ length s
+  zones_long (Ok tt) None = refl
+  zones_long (Ok tt) (Some zs) = let l : Lists = record { zones = zs; windows = [] } in length_counted (with_lists s l) ∙ (lists_head s l).long
+  zones_long (Err cause) o = refl
 
-  windows_long : (v : Verdict) (o : Option (List Window)) → length (windows_left v o s) ≡ length s
-  windows_long Said.Accepted none = refl
-  windows_long Said.Accepted (some ws) = length_counted (with_windows s ws) ∙ (windows_head s ws).long
-  windows_long (Said.TurnedDown cause) o = go (empties cause)
+  windows_long : (v : Result (Unit {0}) Refusal) (o : Option (List Window)) → length (windows_left v o s) ≡ length s
+  windows_long (Ok tt) None = refl
+  windows_long (Ok tt) (Some ws) = length_counted (with_windows s ws) ∙ (windows_head s ws).long
+  windows_long (Err cause) o = go (empties cause)
     where
       go : (b : Bool) → length (cond b (counted (with_windows s [])) s) ≡ length s
       go true = length_counted (with_windows s []) ∙ (windows_head s []).long
       go false = refl
 
-  lists_long : (v : Verdict) (o : Option Lists) → length (lists_left v o s) ≡ length s
-  lists_long Said.Accepted none = refl
-  lists_long Said.Accepted (some l) = (lists_head s l).long
-  lists_long (Said.TurnedDown cause) o = refl
+  lists_long : (v : Result (Unit {0}) Refusal) (o : Option Lists) → length (lists_left v o s) ≡ length s
+  lists_long (Ok tt) None = refl
+  lists_long (Ok tt) (Some l) = (lists_head s l).long
+  lists_long (Err cause) o = refl
 
 pub lengths_stay : (s b : List ℕ) (room : ℕ) → LengthsStay s b room
 unfolding time_zone_left dst_offset_left load_left reset_left

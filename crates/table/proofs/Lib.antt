@@ -7,6 +7,7 @@ pub mod Counts
 pub mod Bounds
 pub mod Listed
 pub mod Parts
+pub mod Entry
 pub mod Alike
 pub mod Back
 pub mod Written

@@ -1,10 +1,10 @@
 -- The bytes of a new table, and where one is made.
+use Rattle.std.specs.Prelude.{Ok, Err}
 use Rattle.std.proofs.Common.{◌≡◌, ℕ, ◌<◌, ◌≤◌, Bool, true, false, ◌&&◌, leb, List, length, refl, arith, le-leb}
 use borrow.Author.Tests.{lt-leb}
 use lib.ListN.{length-replicate}
 use Rattle.model.specs.declared.Refusal.TheVariants as R
 use Rattle.model.specs.Rules.{Rules, allowed}
-use Rattle.rules.specs.declared.Verdict.TheVariants as Said
 use Rattle.table.specs.Layout.{table_size, new_bytes, new_table}
 use Rattle.table.specs.Left.{makes, new_said, new_left}
 
@@ -32,8 +32,8 @@ module _ (s : List ℕ) (r : Rules) where
   unfolding makes
   is_made h a = rw (le-leb table_size (length s) h, a)
 
-  pub none_made : makes s r ≡ false → (Said.TurnedDown R.BadLimits ≡ new_said s r) × (s ≡ new_left s r)
+  pub none_made : makes s r ≡ false → (Err R.BadLimits ≡ new_said s r) × (s ≡ new_left s r)
   none_made e = rw e (refl, refl)
 
-  pub one_made : (u : List ℕ) → makes s r ≡ true → u ≡ new_table s r → (Said.Accepted ≡ new_said s r) × (u ≡ new_left s r)
+  pub one_made : (u : List ℕ) → makes s r ≡ true → u ≡ new_table s r → ((Ok tt) ≡ new_said s r) × (u ≡ new_left s r)
   one_made u e p = rw e (refl, p)

@@ -1,6 +1,6 @@
 -- An entry part by part: its length, its mark, and that equal parts make equal entries.
+use Rattle.std.specs.Prelude.{Option}
 use Rattle.std.proofs.Common.{◌≡◌, ℕ, ◌+◌, true, false, not, List, ◌++◌, length, ℤ, sym, ap, ◌∙◌, arith, length-append, eq-eqb, ne_eqb}
-use mathlib.Core.Option.{Option}
 use Rattle.model.specs.Lists.{Name, Zone, Window}
 use Rattle.model.specs.Bytes.{bytes}
 use Rattle.model.proofs.Words.{length_bytes}

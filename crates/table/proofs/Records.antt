@@ -1,6 +1,7 @@
 -- What an accepted record holds: its entries, as they are written.
+use Rattle.std.specs.Prelude.{Option, None, Some, Result, Ok}
+use Rattle.model.specs.declared.Refusal.{Refusal}
 use Rattle.std.proofs.Common.{◌≡◌, ℕ, suc, ◌+◌, ◌<◌, List, [], ◌∷◌, ◌++◌, length, get_or, drop, sym, refl, ap, ◌∙◌, append-nil, arith, length-append, get_or-drop, drop-drop, drop_at}
-use mathlib.Core.Option.{Option, none, some}
 use Rattle.model.specs.Lists.{Zone, Window, Lists}
 use Rattle.model.specs.Bytes.{zone_bytes, window_bytes, zones_bytes, windows_bytes, record_bytes, all_bytes, read_zone, read_window, read_all, read_section, read_windows, read_record}
 use Rattle.model.specs.History.{verdict, record_verdict}
@@ -10,12 +11,10 @@ use Rattle.model.proofs.WriteBack as W
 use Rattle.word.specs.Place.{byte_at, placed}
 use Rattle.record.proofs.Suffix.{window_leaves}
 use Rattle.record.proofs.Meaning.{whole_is, section_read, record_means}
-use Rattle.rules.specs.declared.Verdict.{Verdict}
-use Rattle.rules.specs.declared.Verdict.TheVariants as Said
 use Rattle.rules.specs.Verdicts.{verdict_of, record_tested}
-use Rattle.table.specs.Layout.{zone_count_place, window_count_place, zone_place, window_place, put_entries, with_zones, with_windows}
+use Rattle.table.specs.Layout.{zone_limit_in, window_limit_in, zone_count_place, window_count_place, zone_place, window_place, put_entries, with_zones, with_windows}
 use Rattle.table.specs.Held.{found, Held, zones_from, windows_from}
-use Rattle.table.specs.Left.{lists_left}
+use Rattle.table.specs.Left.{lists_left, load_said}
 
 -- the place of the second section
 abbrev pub second_at : Lists → ℕ
@@ -23,7 +22,7 @@ second_at l = 1 + length (all_bytes zone_bytes l.zones)
 
 pub record Stored (s : List ℕ) : Type 0 where
   pub lists : Lists
-  pub is : read_record s ≡ some lists
+  pub is : read_record s ≡ Some lists
   pub zone_count_lem : byte_at s 0 ≡ length lists.zones
   pub zones : zones_from s 1 (byte_at s 0) ≡ lists.zones
   pub first : Held zone_bytes s 1 (byte_at s 0) (zones_from s 1 (byte_at s 0))
@@ -32,13 +31,7 @@ pub record Stored (s : List ℕ) : Type 0 where
   pub windows : windows_from s (second_at lists + 1) (byte_at s (second_at lists)) ≡ lists.windows
   pub second : Held window_bytes s (second_at lists + 1) (byte_at s (second_at lists)) (windows_from s (second_at lists + 1) (byte_at s (second_at lists)))
 
-module _ (s : List ℕ) (b : AreBytes s) (l : Lists) (e : read_record s ≡ some l) where
-  zb : List ℕ
-  zb = all_bytes zone_bytes l.zones
-
-  wb : List ℕ
-  wb = all_bytes window_bytes l.windows
-
+module _ (s : List ℕ) (b : AreBytes s) (l : Lists) (e : read_record s ≡ Some l) where
   spelt : s ≡ length l.zones ∷ (all_bytes zone_bytes l.zones ++ (length l.windows ∷ all_bytes window_bytes l.windows))
   unfolding record_bytes zones_bytes windows_bytes
   spelt = (B.record_written s l b e).0
@@ -55,7 +48,7 @@ module _ (s : List ℕ) (b : AreBytes s) (l : Lists) (e : read_record s ≡ some
   count_there : byte_at s (second_at l) ≡ length l.windows
   count_there = let q : second_at l + 0 ≡ second_at l = omega arith in ap (λ (k : ℕ). get_or s k 0) (sym q) ∙ sym (get_or-drop (second_at l) s 0 0) ∙ ap (λ (t : List ℕ). get_or t 0 0) behind
 
-  windows_read_lem : read_all read_window (length l.windows) (all_bytes window_bytes l.windows) ≡ some (l.windows, [])
+  windows_read_lem : read_all read_window (length l.windows) (all_bytes window_bytes l.windows) ≡ Some (l.windows, [])
   unfolding read_windows windows_bytes
   windows_read_lem =
       let f = (B.record_written s l b e).1.windows in
@@ -94,16 +87,16 @@ module _ (s : List ℕ) (b : AreBytes s) (l : Lists) (e : read_record s ≡ some
         };
       }
 
-pub record_stored_lem : (zones windows : ℕ) (s : List ℕ) → AreBytes s → record_tested zones windows s ≡ Said.Accepted → Stored s
+pub record_stored_lem : (zones windows : ℕ) (s : List ℕ) → AreBytes s → record_tested zones windows s ≡ (Ok tt) → Stored s
 unfolding record_tested verdict
 record_stored_lem zones windows s b h = go (read_record s) refl h
   where
-    go : (o : Option Lists) → read_record s ≡ o → verdict_of (record_verdict (record { zone_limit = zones; window_limit = windows }) o) ≡ Said.Accepted → Stored s
-    go none e k = let z : ◌≡◌ {A = ℕ} 0 1 = cc in absurd (omega arith)
-    go (some l) e k = stored s b l e
+    go : (o : Option Lists) → read_record s ≡ o → verdict_of (record_verdict (record { zone_limit = zones; window_limit = windows }) o) ≡ (Ok tt) → Stored s
+    go None e k = let z : ◌≡◌ {A = ℕ} 0 1 = cc in absurd (omega arith)
+    go (Some l) e k = stored s b l e
 
 -- the table that is left
-pub lists_left_lem : (t s : List ℕ) (v : Verdict) (r : Stored s) (n at m : ℕ) (t₁ t₂ t₃ u : List ℕ) → v ≡ Said.Accepted → n ≡ byte_at s 0 → t₁ ≡ placed t zone_count_place (n ∷ [])
+pub lists_left_lem : (t s : List ℕ) (v : Result (Unit {0}) Refusal) (r : Stored s) (n at m : ℕ) (t₁ t₂ t₃ u : List ℕ) → v ≡ (Ok tt) → n ≡ byte_at s 0 → t₁ ≡ placed t zone_count_place (n ∷ [])
     → t₂ ≡ put_entries zone_place zone_bytes t₁ 0 (zones_from s 1 n) → at ≡ second_at r.lists → m ≡ byte_at s at → t₃ ≡ placed t₂ window_count_place (m ∷ [])
     → u ≡ put_entries window_place window_bytes t₃ 0 (windows_from s (at + 1) m) → u ≡ lists_left v (read_record s) t
 unfolding with_zones with_windows
@@ -115,4 +108,17 @@ lists_left_lem t s v r n at m t₁ t₂ t₃ u e en e₁ e₂ ea em e₃ e₄ =
     let w₁ : windows_from s (at + 1) m ≡ r.lists.windows = ap (λ (k : ℕ). windows_from s (k + 1) m) ea ∙ ap (windows_from s (second_at r.lists + 1)) mm ∙ r.windows in
     e₄ ∙ ap (put_entries window_place window_bytes t₃ 0) w₁
     ∙ ap (λ (x : List ℕ). put_entries window_place window_bytes x 0 r.lists.windows) (e₃ ∙ ap (λ (k : ℕ). placed t₂ window_count_place (k ∷ [])) (mm ∙ r.window_count_lem) ∙ ap (λ (x : List ℕ). placed x window_count_place (length r.lists.windows ∷ [])) z₂)
-    ∙ sym (ap (λ (w : Verdict). lists_left w (read_record s) t) e ∙ ap (λ (o : Option Lists). lists_left Said.Accepted o t) r.is)
+    ∙ sym (ap (λ (w : Result (Unit {0}) Refusal). lists_left w (read_record s) t) e ∙ ap (λ (o : Option Lists). lists_left (Ok tt) o t) r.is)
+
+-- ## What a load hears and finds
+
+-- what the rules said, at the limits that were read
+pub load_heard : (t s : List ℕ) {k m : ℕ} {v r : Result (Unit {0}) Refusal} → v ≡ record_tested k m s → k ≡ zone_limit_in t → m ≡ window_limit_in t → v ≡ r → load_said t s ≡ r
+unfolding load_said
+load_heard t s {k} {m} p q w e =
+    sym (p ∙ ap (λ (n : ℕ). record_tested n m s) q ∙ ap (λ (n : ℕ). record_tested (zone_limit_in t) n s) w) ∙ e
+
+-- the place behind the zones, by the count that was read
+pub second_place : (s : List ℕ) (asked : Stored s) {n at : ℕ} → n ≡ byte_at s 0 → at ≡ 1 + length (all_bytes zone_bytes (zones_from s 1 n)) → at ≡ second_at asked.lists
+second_place s asked e p =
+    p ∙ ap (λ (k : ℕ). 1 + length (all_bytes zone_bytes (zones_from s 1 k))) e ∙ ap (λ (zs : List Zone). 1 + length (all_bytes zone_bytes zs)) asked.zones

@@ -1,6 +1,6 @@
 -- What an accepted request holds: its entries, as they are written.
-use Rattle.std.proofs.Common.{◌≡◌, ℕ, suc, ◌<◌, Bool, true, false, cond, List, [], ◌∷◌, ◌++◌, length, get_or, drop, sym, refl, ap, ◌∙◌, append-nil, arith}
-use mathlib.Core.Option.{Option, none, some}
+use Rattle.std.specs.Prelude.{Option, None, Some, Result, Ok, Err}
+use Rattle.std.proofs.Common.{◌≡◌, ℕ, suc, ◌<◌, Bool, true, false, cond, List, [], ◌∷◌, ◌++◌, length, get_or, drop, sym, refl, ap, subst, ◌∙◌, append-nil, arith}
 use Rattle.model.specs.declared.Refusal.{Refusal}
 use Rattle.model.specs.Lists.{Zone, Window}
 use Rattle.model.specs.Bytes.{zone_bytes, window_bytes, zones_bytes, windows_bytes, all_bytes, read_zone, read_window, read_all, read_section, read_zones, read_windows}
@@ -10,8 +10,6 @@ use Rattle.model.proofs.ReadBack as B
 use Rattle.word.specs.Place.{byte_at, placed}
 use Rattle.record.proofs.Suffix.{zone_leaves, window_leaves}
 use Rattle.record.proofs.Meaning.{whole_is, section_read}
-use Rattle.rules.specs.declared.Verdict.{Verdict}
-use Rattle.rules.specs.declared.Verdict.TheVariants as Said
 use Rattle.rules.specs.Verdicts.{verdict_of, list_verdict, zones_tested, windows_tested}
 use Rattle.table.specs.Layout.{zone_count_place, window_count_place, zone_place, window_place, put_entries, with_zones, with_windows, counted}
 use Rattle.table.specs.Held.{found, Held, zones_from, windows_from}
@@ -23,20 +21,20 @@ are_bytes [] f = tt
 are_bytes (b ∷ s) f = (f 0, are_bytes s (λ i. f (suc i)))
 
 -- what is unreadable is not accepted
-readable : {A : Type 0} (limit : ℕ) (rule : ℕ → Option A → A → M.Verdict) (o : Option (List A)) → verdict_of (list_verdict limit rule o) ≡ Said.Accepted → (C : Type 0) → ((xs : List A) → o ≡ some xs → C) → C
-readable limit rule none h C go = let z : ◌≡◌ {A = ℕ} 0 1 = cc in absurd (omega arith)
-readable limit rule (some xs) h C go = go xs refl
+readable : {A : Type 0} (limit : ℕ) (rule : ℕ → Option A → A → M.Verdict) (o : Option (List A)) → verdict_of (list_verdict limit rule o) ≡ (Ok tt) → (C : Type 0) → ((xs : List A) → o ≡ Some xs → C) → C
+readable limit rule None h C go = let z : ◌≡◌ {A = ℕ} 0 1 = cc in absurd (omega arith)
+readable limit rule (Some xs) h C go = go xs refl
 
 -- the list of an accepted request, its count, and where its entries stand
 pub record Request {A : Type 0} (entry_bytes : A → List ℕ) (s : List ℕ) (o : Option (List A)) (from : ℕ → ℕ → List A) : Type 0 where
   pub list : List A
-  pub is : o ≡ some list
+  pub is : o ≡ Some list
   pub count : byte_at s 0 ≡ length list
   pub listed : from 1 (byte_at s 0) ≡ list
   pub held : Held entry_bytes s 1 (byte_at s 0) (from 1 (byte_at s 0))
 
 module _ {A : Type 0} (entry_bytes : A → List ℕ) (s : List ℕ) (o : Option (List A)) (from : ℕ → ℕ → List A) where
-  requested : (xs : List A) → o ≡ some xs → s ≡ length xs ∷ all_bytes entry_bytes xs → from 1 (byte_at s 0) ≡ xs → Request entry_bytes s o from
+  requested : (xs : List A) → o ≡ Some xs → s ≡ length xs ∷ all_bytes entry_bytes xs → from 1 (byte_at s 0) ≡ xs → Request entry_bytes s o from
   requested xs e w l =
       let c : byte_at s 0 ≡ length xs = ap (λ (t : List ℕ). byte_at t 0) w in
       record {
@@ -52,7 +50,7 @@ module _ {A : Type 0} (entry_bytes : A → List ℕ) (s : List ℕ) (o : Option 
         };
       }
 
-pub zones_requested : (limit : ℕ) (s : List ℕ) → AreBytes s → zones_tested limit s ≡ Said.Accepted → Request zone_bytes s (read_zones s) (zones_from s)
+pub zones_requested : (limit : ℕ) (s : List ℕ) → AreBytes s → zones_tested limit s ≡ (Ok tt) → Request zone_bytes s (read_zones s) (zones_from s)
 unfolding zones_tested read_zones zones_bytes zones_from
 zones_requested limit s b h =
     readable limit M.zone_rule (read_zones s) h (Request zone_bytes s (read_zones s) (zones_from s))
@@ -60,7 +58,7 @@ zones_requested limit s b h =
     let r = section_read read_zone zone_leaves s 0 zs [] (whole_is (read_section read_zone s) zs e) in
     requested zone_bytes s (read_zones s) (zones_from s) zs e (B.zones_written s zs b e).0 (ap found (ap (λ (n : ℕ). read_all read_zone n (drop 1 s)) r.count ∙ r.entries)))
 
-pub windows_requested : (limit : ℕ) (s : List ℕ) → AreBytes s → windows_tested limit s ≡ Said.Accepted → Request window_bytes s (read_windows s) (windows_from s)
+pub windows_requested : (limit : ℕ) (s : List ℕ) → AreBytes s → windows_tested limit s ≡ (Ok tt) → Request window_bytes s (read_windows s) (windows_from s)
 unfolding windows_tested read_windows windows_bytes windows_from
 windows_requested limit s b h =
     readable limit M.window_rule (read_windows s) h (Request window_bytes s (read_windows s) (windows_from s))
@@ -68,10 +66,15 @@ windows_requested limit s b h =
     let r = section_read read_window window_leaves s 0 ws [] (whole_is (read_section read_window s) ws e) in
     requested window_bytes s (read_windows s) (windows_from s) ws e (B.windows_written s ws b e).0 (ap found (ap (λ (n : ℕ). read_all read_window n (drop 1 s)) r.count ∙ r.entries)))
 
+-- they stand there, by the count that was read
+pub entries_held : {A : Type 0} (entry_bytes : A → List ℕ) (s : List ℕ) (o : Option (List A)) (from : ℕ → ℕ → List A) (n : ℕ)
+    → Request entry_bytes s o from → n ≡ byte_at s 0 → Held entry_bytes s 1 n (from 1 n)
+entries_held entry_bytes s o from n r e = subst (λ (k : ℕ). Held entry_bytes s 1 k (from 1 k)) (sym e) r.held
+
 -- ## The table that is left
 
-module _ (t s : List ℕ) (v : Verdict) (n : ℕ) (c u : List ℕ) where
-  pub zones_left_lem : (x : List ℕ) (r : Request zone_bytes s (read_zones s) (zones_from s)) → v ≡ Said.Accepted → n ≡ byte_at s 0 → c ≡ placed t zone_count_place (n ∷ [])
+module _ (t s : List ℕ) (v : Result (Unit {0}) Refusal) (n : ℕ) (c u : List ℕ) where
+  pub zones_left_lem : (x : List ℕ) (r : Request zone_bytes s (read_zones s) (zones_from s)) → v ≡ (Ok tt) → n ≡ byte_at s 0 → c ≡ placed t zone_count_place (n ∷ [])
       → u ≡ put_entries zone_place zone_bytes c 0 (zones_from s 1 n) → x ≡ counted (with_windows u []) → x ≡ zones_left v (read_zones s) t
   unfolding with_zones
   zones_left_lem x r e m p q g =
@@ -79,9 +82,9 @@ module _ (t s : List ℕ) (v : Verdict) (n : ℕ) (c u : List ℕ) where
       ∙ ap (λ (l : List ℕ). counted (with_windows l []))
       (q ∙ ap (λ (k : ℕ). put_entries zone_place zone_bytes c 0 (zones_from s 1 k)) m ∙ ap (put_entries zone_place zone_bytes c 0) r.listed
       ∙ ap (λ (l : List ℕ). put_entries zone_place zone_bytes l 0 r.list) (p ∙ ap (λ (k : ℕ). placed t zone_count_place (k ∷ [])) (m ∙ r.count)))
-      ∙ sym (ap (λ (w : Verdict). zones_left w (read_zones s) t) e ∙ ap (λ (o : Option (List Zone)). zones_left Said.Accepted o t) r.is)
+      ∙ sym (ap (λ (w : Result (Unit {0}) Refusal). zones_left w (read_zones s) t) e ∙ ap (λ (o : Option (List Zone)). zones_left (Ok tt) o t) r.is)
 
-  pub windows_left_lem : (x : List ℕ) (r : Request window_bytes s (read_windows s) (windows_from s)) → v ≡ Said.Accepted → n ≡ byte_at s 0 → c ≡ placed t window_count_place (n ∷ [])
+  pub windows_left_lem : (x : List ℕ) (r : Request window_bytes s (read_windows s) (windows_from s)) → v ≡ (Ok tt) → n ≡ byte_at s 0 → c ≡ placed t window_count_place (n ∷ [])
       → u ≡ put_entries window_place window_bytes c 0 (windows_from s 1 n) → x ≡ counted u → x ≡ windows_left v (read_windows s) t
   unfolding with_windows
   windows_left_lem x r e m p q g =
@@ -89,15 +92,15 @@ module _ (t s : List ℕ) (v : Verdict) (n : ℕ) (c u : List ℕ) where
       ∙ ap counted
       (q ∙ ap (λ (k : ℕ). put_entries window_place window_bytes c 0 (windows_from s 1 k)) m ∙ ap (put_entries window_place window_bytes c 0) r.listed
       ∙ ap (λ (l : List ℕ). put_entries window_place window_bytes l 0 r.list) (p ∙ ap (λ (k : ℕ). placed t window_count_place (k ∷ [])) (m ∙ r.count)))
-      ∙ sym (ap (λ (w : Verdict). windows_left w (read_windows s) t) e ∙ ap (λ (o : Option (List Window)). windows_left Said.Accepted o t) r.is)
+      ∙ sym (ap (λ (w : Result (Unit {0}) Refusal). windows_left w (read_windows s) t) e ∙ ap (λ (o : Option (List Window)). windows_left (Ok tt) o t) r.is)
 
-module _ (t : List ℕ) (v : Verdict) (cause : Refusal) (o : Option (List Window)) (e : Said.TurnedDown cause ≡ v) where
+module _ (t : List ℕ) (v : Result (Unit {0}) Refusal) (cause : Refusal) (o : Option (List Window)) (e : Err cause ≡ v) where
   pub windows_stay : empties cause ≡ false → t ≡ windows_left v o t
   windows_stay h =
-      let q : windows_left (Said.TurnedDown cause) o t ≡ t = ap (λ (b : Bool). cond b (counted (with_windows t [])) t) h in
-      sym q ∙ ap (λ (w : Verdict). windows_left w o t) e
+      let q : windows_left (Err cause) o t ≡ t = ap (λ (b : Bool). cond b (counted (with_windows t [])) t) h in
+      sym q ∙ ap (λ (w : Result (Unit {0}) Refusal). windows_left w o t) e
 
   pub windows_gone : (x : List ℕ) → empties cause ≡ true → x ≡ counted (with_windows t []) → x ≡ windows_left v o t
   windows_gone x h g =
-      let q : windows_left (Said.TurnedDown cause) o t ≡ counted (with_windows t []) = ap (λ (b : Bool). cond b (counted (with_windows t [])) t) h in
-      g ∙ sym q ∙ ap (λ (w : Verdict). windows_left w o t) e
+      let q : windows_left (Err cause) o t ≡ counted (with_windows t []) = ap (λ (b : Bool). cond b (counted (with_windows t [])) t) h in
+      g ∙ sym q ∙ ap (λ (w : Result (Unit {0}) Refusal). windows_left w o t) e

@@ -1,7 +1,8 @@
 -- What is said of a request, by the length of the record that it would store.
-use Rattle.std.proofs.Common.{◌≡◌, ℕ, ◌+◌, Bool, ltb, List, [], ◌∷◌, length, sym, ap, ◌∙◌, arith, length-append}
-use mathlib.Core.Option.{none, some}
+use Rattle.std.specs.Prelude.{None, Some, Result, Ok, Err}
+use Rattle.std.proofs.Common.{◌≡◌, ℕ, ◌+◌, ◌<◌, ◌≤◌, Bool, true, false, ltb, List, [], ◌∷◌, length, refl, sym, ap, ◌∙◌, arith, length-append, le-ltb, lt-ltb}
 use Rattle.model.specs.declared.Refusal.{Refusal}
+use Rattle.model.specs.declared.Refusal.TheVariants.{NoSpace}
 use Rattle.model.specs.Lists.{Zone, Window, Lists}
 use Rattle.model.specs.Bytes.{zones_bytes, windows_bytes, record_bytes, all_bytes, read_zones, read_windows}
 use Rattle.model.specs.Rules as M
@@ -10,8 +11,6 @@ use Rattle.model.specs.History.{SetTimeZone, SetDSTOffset, verdict, zones_verdic
 use Rattle.model.specs.Output.{stored_by, lacks_room, no_space}
 use Rattle.model.specs.RoundTrip.{AreBytes}
 use Rattle.model.proofs.ReadBack as B
-use Rattle.rules.specs.declared.Verdict.{Verdict}
-use Rattle.rules.specs.declared.Verdict.TheVariants as Said
 use Rattle.rules.specs.Verdicts.{zones_tested, windows_tested}
 use Rattle.rules.proofs.Agree.{zones_are_lem, windows_are_lem, is_accepted}
 use Rattle.table.specs.Layout.{zones_in, lists_in, zone_limit_in, window_limit_in, rules_in}
@@ -21,20 +20,20 @@ use Rattle.table.proofs.Requests.{zones_requested, windows_requested}
 -- ## What an accepted request makes of the lists, and the length of its record
 
 module _ (r : Rules) (b : List ℕ) where
-  pub zones_pass : (zs : List Zone) → read_zones b ≡ some zs → verdict r (SetTimeZone b) ≡ M.accepted → test_zones r zs ≡ M.accepted
+  pub zones_pass : (zs : List Zone) → read_zones b ≡ Some zs → verdict r (SetTimeZone b) ≡ M.accepted → test_zones r zs ≡ M.accepted
   unfolding verdict
   zones_pass zs e v = sym (ap (zones_verdict r) e) ∙ v
 
-  pub windows_pass : (ws : List Window) → read_windows b ≡ some ws → verdict r (SetDSTOffset b) ≡ M.accepted → test_windows r ws ≡ M.accepted
+  pub windows_pass : (ws : List Window) → read_windows b ≡ Some ws → verdict r (SetDSTOffset b) ≡ M.accepted → test_windows r ws ≡ M.accepted
   unfolding verdict
   windows_pass ws e v = sym (ap (windows_verdict r) e) ∙ v
 
   module _ (l : Lists) where
-    pub zones_taken_lem : (zs : List Zone) → read_zones b ≡ some zs → verdict r (SetTimeZone b) ≡ M.accepted → after r l (SetTimeZone b) ≡ record { zones = zs; windows = [] }
+    pub zones_taken_lem : (zs : List Zone) → read_zones b ≡ Some zs → verdict r (SetTimeZone b) ≡ M.accepted → after r l (SetTimeZone b) ≡ record { zones = zs; windows = [] }
     unfolding after
     zones_taken_lem zs e v = ap (zones_set r l) e ∙ ap (λ (w : M.Verdict). if_accepted w (record { zones = zs; windows = [] }) l) (zones_pass zs e v)
 
-    pub windows_set_lem : (ws : List Window) (v : M.Verdict) → read_windows b ≡ some ws → test_windows r ws ≡ v → after r l (SetDSTOffset b) ≡ record { zones = l.zones; windows = if_accepted v ws [] }
+    pub windows_set_lem : (ws : List Window) (v : M.Verdict) → read_windows b ≡ Some ws → test_windows r ws ≡ v → after r l (SetDSTOffset b) ≡ record { zones = l.zones; windows = if_accepted v ws [] }
     unfolding after
     windows_set_lem ws v e a = ap (windows_set r l) e ∙ ap (λ (w : M.Verdict). record { zones = l.zones; windows = if_accepted w ws [] }) a
 
@@ -55,35 +54,60 @@ module _ (s b : List ℕ) (room : ℕ) where
   abbrev pub windows_short : Bool
   windows_short = no_space (rules_in s) (lists_in s) (record { call = SetDSTOffset b; room = room })
 
-  pub zones_room : AreBytes b → zones_tested (zone_limit_in s) b ≡ Said.Accepted → zones_short ≡ ltb room (length b + 1)
+  pub zones_room : AreBytes b → zones_tested (zone_limit_in s) b ≡ (Ok tt) → zones_short ≡ ltb room (length b + 1)
   unfolding no_space stored_by
   zones_room c h =
       let q = zones_requested (zone_limit_in s) b c h in
       let v = is_accepted (verdict (rules_in s) (SetTimeZone b)) (sym (zones_are_lem (rules_in s) b) ∙ h) in
-      ap (λ (w : M.Verdict). lacks_room room (if_accepted w (some (record_bytes (after (rules_in s) (lists_in s) (SetTimeZone b)))) none)) v
+      ap (λ (w : M.Verdict). lacks_room room (if_accepted w (Some (record_bytes (after (rules_in s) (lists_in s) (SetTimeZone b)))) None)) v
       ∙ ap (λ (l : Lists). ltb room (length (record_bytes l))) (zones_taken_lem (rules_in s) b (lists_in s) q.list q.is v)
       ∙ ap (ltb room) (zones_record q.list b (B.zones_written b q.list c q.is).0)
 
-  pub windows_room : AreBytes b → windows_tested (window_limit_in s) b ≡ Said.Accepted → windows_short ≡ ltb room (length (zones_bytes (zones_in s)) + length b)
+  pub windows_room : AreBytes b → windows_tested (window_limit_in s) b ≡ (Ok tt) → windows_short ≡ ltb room (length (zones_bytes (zones_in s)) + length b)
   unfolding no_space stored_by
   windows_room c h =
       let q = windows_requested (window_limit_in s) b c h in
       let v = is_accepted (verdict (rules_in s) (SetDSTOffset b)) (sym (windows_are_lem (rules_in s) b) ∙ h) in
-      ap (λ (w : M.Verdict). lacks_room room (if_accepted w (some (record_bytes (after (rules_in s) (lists_in s) (SetDSTOffset b)))) none)) v
+      ap (λ (w : M.Verdict). lacks_room room (if_accepted w (Some (record_bytes (after (rules_in s) (lists_in s) (SetDSTOffset b)))) None)) v
       ∙ ap (λ (l : Lists). ltb room (length (record_bytes l))) (windows_set_lem (rules_in s) b (lists_in s) q.list M.accepted q.is (windows_pass (rules_in s) b q.list q.is v))
       ∙ ap (ltb room) (windows_record (zones_in s) q.list b (B.windows_written b q.list c q.is).0)
 
   -- ## What is said, by the rules and the room
 
-  pub zones_said : (v : Verdict) (short : Bool) → zones_tested (zone_limit_in s) b ≡ v → zones_short ≡ short → time_zone_said s b room ≡ with_room short v
+  pub zones_said : (v : Result (Unit {0}) Refusal) (short : Bool) → zones_tested (zone_limit_in s) b ≡ v → zones_short ≡ short → time_zone_said s b room ≡ with_room short v
   unfolding time_zone_said
   zones_said v short p q = ap (λ (x : Bool). with_room x (zones_tested (zone_limit_in s) b)) q ∙ ap (with_room short) p
 
-  pub windows_said : (v : Verdict) (short : Bool) → windows_tested (window_limit_in s) b ≡ v → windows_short ≡ short → dst_offset_said s b room ≡ with_room short v
+  pub windows_said : (v : Result (Unit {0}) Refusal) (short : Bool) → windows_tested (window_limit_in s) b ≡ v → windows_short ≡ short → dst_offset_said s b room ≡ with_room short v
   unfolding dst_offset_said
   windows_said v short p q = ap (λ (x : Bool). with_room x (windows_tested (window_limit_in s) b)) q ∙ ap (with_room short) p
 
   -- zones that are turned down change nothing
-  pub zones_stay : (cause : Refusal) → time_zone_said s b room ≡ Said.TurnedDown cause → (Said.TurnedDown cause ≡ time_zone_said s b room) × (s ≡ time_zone_left s b room)
+  pub zones_stay : (cause : Refusal) → time_zone_said s b room ≡ Err cause → (Err cause ≡ time_zone_said s b room) × (s ≡ time_zone_left s b room)
   unfolding time_zone_left
-  zones_stay cause e = (sym e, sym (ap (λ (v : Verdict). zones_left v (read_zones b) s) e))
+  zones_stay cause e = (sym e, sym (ap (λ (v : Result (Unit {0}) Refusal). zones_left v (read_zones b) s) e))
+
+  -- ## The answers of a call, by what the rules said and by the room
+
+  -- what the rules said, at the limit that was read
+  pub zones_heard : {k : ℕ} {v r : Result (Unit {0}) Refusal} → v ≡ zones_tested k b → k ≡ zone_limit_in s → v ≡ r → zones_tested (zone_limit_in s) b ≡ r
+  zones_heard p q e = sym (p ∙ ap (λ (n : ℕ). zones_tested n b) q) ∙ e
+
+  pub windows_heard : {k : ℕ} {v r : Result (Unit {0}) Refusal} → v ≡ windows_tested k b → k ≡ window_limit_in s → v ≡ r → windows_tested (window_limit_in s) b ≡ r
+  windows_heard p q e = sym (p ∙ ap (λ (n : ℕ). windows_tested n b) q) ∙ e
+
+  pub zones_refused : (cause : Refusal) → zones_tested (zone_limit_in s) b ≡ Err cause → (Err cause ≡ time_zone_said s b room) × (s ≡ time_zone_left s b room)
+  zones_refused cause e = zones_stay cause (zones_said (Err cause) zones_short e refl)
+
+  pub zones_without_room : AreBytes b → zones_tested (zone_limit_in s) b ≡ Ok tt → room ≤ length b → (Err NoSpace ≡ time_zone_said s b room) × (s ≡ time_zone_left s b room)
+  zones_without_room c e h = zones_stay NoSpace (zones_said (Ok tt) true e (zones_room c e ∙ lt-ltb room (length b + 1) (omega arith)))
+
+  pub zones_accepted : AreBytes b → zones_tested (zone_limit_in s) b ≡ Ok tt → length b < room → time_zone_said s b room ≡ Ok tt
+  zones_accepted c e h = zones_said (Ok tt) false e (zones_room c e ∙ le-ltb room (length b + 1) (omega arith))
+
+  pub windows_refused : (cause : Refusal) → windows_tested (window_limit_in s) b ≡ Err cause → dst_offset_said s b room ≡ Err cause
+  windows_refused cause e = windows_said (Err cause) windows_short e refl
+
+  pub windows_by_room : AreBytes b → windows_tested (window_limit_in s) b ≡ Ok tt → {short lacks : Bool} → lacks ≡ ltb room (length (zones_bytes (zones_in s)) + length b) → lacks ≡ short
+      → dst_offset_said s b room ≡ with_room short (Ok tt)
+  windows_by_room c e {short} l q = windows_said (Ok tt) short e (windows_room c e ∙ sym l ∙ q)

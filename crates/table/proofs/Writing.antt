@@ -1,30 +1,61 @@
--- Entries written one after another to their places.
-use Rattle.std.proofs.Common.{◌≡◌, ℕ, suc, ◌+◌, ◌<◌, ◌≤◌, List, length, get_or, drop, sym, refl, ap, ◌∙◌, add-one, drop_of_length-le, drop-cons}
+-- Entries of some kind copied one after another to their places.
+use Rattle.std.proofs.Common.{◌≡◌, ℕ, suc, ◌+◌, ◌-◌, ◌<◌, ◌≤◌, List, length, take, drop, sym, refl, ap, subst, ◌∙◌, arith, add-one}
+use native.Mathlib.Nat.{sub-zero}
 use Rattle.word.specs.Place.{placed}
 use Rattle.table.specs.Layout.{put_entries}
+use Rattle.table.specs.Held.{Whole, parts_from, end_of}
 use Rattle.word.proofs.Frame.{length_placed}
 
-module _ {A : Type 0} (place : ℕ → ℕ) (entry_bytes : A → List ℕ) (all : List A) where
-  -- s₀ with all entries is s with those from i on
-  pub record Writing (s₀ : List ℕ) (i : ℕ) (s : List ℕ) : Type 0 where
-    pub left : put_entries place entry_bytes s₀ 0 all ≡ put_entries place entry_bytes s i (drop i all)
-    pub long : length s ≡ length s₀
+module _ (place : ℕ → ℕ) (length_at : List ℕ → ℕ → ℕ) (s : List ℕ) (from n : ℕ) (table₀ : List ℕ) where
+  -- the first i are copied, and those behind them stand at `at`
+  pub record Copying (i at : ℕ) (table : List ℕ) : Type 0 where
+    pub left : put_entries place (λ bs. bs) table₀ 0 (parts_from length_at s from n) ≡ put_entries place (λ bs. bs) table i (parts_from length_at s at (n - i))
+    pub whole : Whole length_at s at (n - i)
+    pub end : end_of length_at s from n ≡ end_of length_at s at (n - i)
+    pub long : length table ≡ length table₀
 
-  pub none_written : (s : List ℕ) → Writing s 0 s
-  none_written s = record { left = refl; long = refl }
-
-  pub one_written : (s₀ : List ℕ) (i : ℕ) (s : List ℕ) (d : A) (t : List ℕ) → Writing s₀ i s → i < length all
-      → t ≡ placed s (place i) (entry_bytes (get_or all i d)) → Writing s₀ (i + 1) t
-  unfolding put_entries
-  one_written s₀ i s d t w h q =
+  pub none_copied : Whole length_at s from n → Copying 0 from table₀
+  none_copied h =
+      let e = sym (sub-zero n) in
       record {
-        left =
-            w.left ∙ ap (put_entries place entry_bytes s i) (drop-cons all i d h)
-            ∙ ap (λ (u : List ℕ). put_entries place entry_bytes u (suc i) (drop (suc i) all)) (sym q)
-            ∙ ap (λ (k : ℕ). put_entries place entry_bytes t k (drop k all)) (sym (add-one i));
-        long = ap length q ∙ length_placed s (place i) (entry_bytes (get_or all i d)) ∙ w.long;
+        left = ap (λ (k : ℕ). put_entries place (λ bs. bs) table₀ 0 (parts_from length_at s from k)) e;
+        whole = subst (Whole length_at s from) e h;
+        end = ap (end_of length_at s from) e;
+        long = refl;
       }
 
-  pub all_written : (s₀ : List ℕ) (i : ℕ) (s : List ℕ) → Writing s₀ i s → length all ≤ i → s ≡ put_entries place entry_bytes s₀ 0 all
-  unfolding put_entries
-  all_written s₀ i s w h = sym (w.left ∙ ap (put_entries place entry_bytes s i) (drop_of_length-le all {i = i} h))
+  pub record Next (at : ℕ) : Type 0 where
+    pub head : at + 13 ≤ length s
+    pub whole : at + length_at s at ≤ length s
+
+  module _ {i at : ℕ} {table : List ℕ} (w : Copying i at table) where
+    one_more : i < n → n - i ≡ suc (n - (i + 1))
+    one_more h = omega arith
+
+    pub next : i < n → Next at
+    unfolding Whole
+    next h = let t = subst (Whole length_at s at) (one_more h) w.whole in record { head = t.0; whole = t.1 }
+
+    pub one_copied : i < n → (table' : List ℕ) → table' ≡ placed table (place i) (take (length_at s at) (drop at s)) → Copying (i + 1) (at + length_at s at) table'
+    unfolding Whole parts_from end_of put_entries
+    one_copied h table' q =
+        let e = one_more h in
+        let more = parts_from length_at s (at + length_at s at) (n - (i + 1)) in
+        let t = subst (Whole length_at s at) e w.whole in
+        record {
+          left =
+              w.left ∙ ap (λ (k : ℕ). put_entries place (λ bs. bs) table i (parts_from length_at s at k)) e
+              ∙ ap (λ (u : List ℕ). put_entries place (λ bs. bs) u (suc i) more) (sym q)
+              ∙ ap (λ (k : ℕ). put_entries place (λ bs. bs) table' k more) (sym (add-one i));
+          whole = t.2;
+          end = w.end ∙ ap (end_of length_at s at) e;
+          long = ap length q ∙ length_placed table (place i) (take (length_at s at) (drop at s)) ∙ w.long;
+        }
+
+    pub all_copied : n ≤ i → (table ≡ put_entries place (λ bs. bs) table₀ 0 (parts_from length_at s from n)) × (at ≡ end_of length_at s from n)
+    unfolding parts_from end_of put_entries
+    all_copied h =
+        let e : n - i ≡ 0 = omega arith in (
+          sym (w.left ∙ ap (λ (k : ℕ). put_entries place (λ bs. bs) table i (parts_from length_at s at k)) e),
+          sym (w.end ∙ ap (end_of length_at s at) e),
+        )

@@ -1,10 +1,8 @@
 -- Tables at their edges: bytes that no call writes, too few bytes, the largest generation.
-use Rattle.std.specs.Prelude.{◌≡◌, true, [], ◌∷◌, ◌++◌, replicate, negsuc, refl}
-use Rattle.std.proofs.Math.Option.{none, some}
+use Rattle.std.specs.Prelude.{◌≡◌, true, [], ◌∷◌, ◌++◌, replicate, negsuc, refl, None, Some, Ok, Err}
 use Rattle.model.specs.declared.Refusal.TheVariants.{Unreadable, NoSpace}
 use Rattle.model.specs.Bytes.{bytes, number, signed}
 use Rattle.word.specs.Place.{word_at, placed}
-use Rattle.rules.specs.declared.Verdict.TheVariants.{Accepted, TurnedDown}
 use Rattle.table.specs.Layout.{rules_in, zone_count, window_count, generation_in, counted, name_at, window_at, entries_from, zones_in, windows_in, lists_in}
 use Rattle.table.specs.Left.{with_room, windows_left}
 
@@ -41,7 +39,7 @@ wraps = refl
 
 -- any mark but 0 says that a window has an end
 mark_of_5 : window_at (255 ∷ 255 ∷ 255 ∷ 255 ∷ 1 ∷ 0 ∷ 0 ∷ 0 ∷ 0 ∷ 0 ∷ 0 ∷ 0 ∷ 5 ∷ 7 ∷ 0 ∷ 0 ∷ 0 ∷ 0 ∷ 0 ∷ 0 ∷ 0 ∷ []) 0
-    ≡ record { offset = negsuc 0; start = 1; until = some 7 }
+    ≡ record { offset = negsuc 0; start = 1; until = Some 7 }
 unfolding word_at number signed
 mark_of_5 = refl
 
@@ -50,15 +48,15 @@ long_name : name_at (replicate 13 0 ++ (255 ∷ replicate 70 97)) 0 ≡ replicat
 long_name = refl
 
 -- room is tested last: a refusal stays what it is
-room_last : with_room true (TurnedDown Unreadable) ≡ TurnedDown Unreadable
+room_last : with_room true (Err Unreadable) ≡ Err Unreadable
 room_last = refl
 
-room_short : with_room true Accepted ≡ TurnedDown NoSpace
+room_short : with_room true (Ok tt) ≡ Err NoSpace
 room_short = refl
 
 -- windows without room, or that say nothing, change nothing
-no_room_left : windows_left (TurnedDown NoSpace) (some []) (1 ∷ 2 ∷ 3 ∷ 4 ∷ []) ≡ 1 ∷ 2 ∷ 3 ∷ 4 ∷ []
+no_room_left : windows_left (Err NoSpace) (Some []) (1 ∷ 2 ∷ 3 ∷ 4 ∷ []) ≡ 1 ∷ 2 ∷ 3 ∷ 4 ∷ []
 no_room_left = refl
 
-unreadable_left : windows_left (TurnedDown Unreadable) none (1 ∷ 2 ∷ 3 ∷ 4 ∷ []) ≡ 1 ∷ 2 ∷ 3 ∷ 4 ∷ []
+unreadable_left : windows_left (Err Unreadable) None (1 ∷ 2 ∷ 3 ∷ 4 ∷ []) ≡ 1 ∷ 2 ∷ 3 ∷ 4 ∷ []
 unreadable_left = refl

@@ -1,10 +1,9 @@
 -- Entries that stand in some bytes as they are written.
-use Rattle.std.specs.Prelude.{◌≡◌, ℕ, ◌+◌, ◌≤◌, cond, List, [], ◌∷◌, ◌++◌, length, take, drop, ◌==◌}
-use Rattle.std.proofs.Math.Option.{none, some}
+use Rattle.std.specs.Prelude.{◌≡◌, ℕ, zero, suc, ◌+◌, ◌≤◌, ⊤, cond, List, [], ◌∷◌, ◌++◌, length, take, drop, ◌==◌, None, Some}
 use Rattle.model.specs.Lists.{Zone, Window}
 use Rattle.model.specs.Bytes.{Front, all_bytes, read_zone, read_window, read_all}
 use Rattle.word.specs.Place.{byte_at}
-use Rattle.table.specs.Layout.{mark_at}
+use Rattle.table.specs.Layout.{mark_at, entries_from}
 
 -- how many bytes the entry at `at` has, by its mark
 unfoldable pub zone_length_at : List ℕ → ℕ → ℕ
@@ -20,8 +19,8 @@ head_bytes s at = take 12 (drop at s) ++ (cond (mark_at s (at + 12)) 1 0 ∷ [])
 module _ {A : Type 0} where
   -- what was read
   abbrev pub found : Front (List A) → List A
-  found none = []
-  found (some f) = f.0
+  found None = []
+  found (Some f) = f.0
 
   -- the entries `xs` stand in `s` from `from` on
   pub record Held (entry_bytes : A → List ℕ) (s : List ℕ) (from n : ℕ) (xs : List A) : Type 0 where
@@ -36,3 +35,25 @@ zones_from s from n = found (read_all read_zone n (drop from s))
 
 unfoldable pub windows_from : List ℕ → ℕ → ℕ → List Window
 windows_from s from n = found (read_all read_window n (drop from s))
+
+-- ## Entries of some kind, by how many bytes one at a place has
+
+module _ (length_at : List ℕ → ℕ → ℕ) where
+  -- the bytes of each of the n entries from `at` on
+  unfoldable pub parts_from : List ℕ → ℕ → ℕ → List (List ℕ)
+  parts_from s at zero = []
+  parts_from s at (suc n) = take (length_at s at) (drop at s) ∷ parts_from s (at + length_at s at) n
+
+  -- the place after them
+  unfoldable pub end_of : List ℕ → ℕ → ℕ → ℕ
+  end_of s at zero = at
+  end_of s at (suc n) = end_of s (at + length_at s at) n
+
+  -- they all stand there
+  unfoldable pub Whole : List ℕ → ℕ → ℕ → Type 0
+  Whole s at zero = ⊤
+  Whole s at (suc n) = (at + 13 ≤ length s) × (at + length_at s at ≤ length s) × Whole s (at + length_at s at) n
+
+-- a section of the first n entries of a table: their count, and the bytes of each
+unfoldable pub section_in : (List ℕ → ℕ → List ℕ) → (ℕ → ℕ) → List ℕ → ℕ → List ℕ
+section_in bytes_in place s n = n ∷ all_bytes (λ i. bytes_in s (place i)) (entries_from (λ i. i) 0 n)

@@ -1,6 +1,5 @@
 -- What holds of tables; the proofs stand in proofs/.
-use Rattle.std.specs.Prelude.{◌≡◌, ℕ, ◌≤◌, true, List, length}
-use Rattle.std.proofs.Math.Option.{Option, none, some}
+use Rattle.std.specs.Prelude.{◌≡◌, ℕ, ◌≤◌, true, List, length, Option, None, Some}
 use Rattle.model.specs.Basics.{All}
 use Rattle.model.specs.Lists.{Name, Zone, Window, empty}
 use Rattle.model.specs.Rules.{Rules, allowed}
@@ -15,8 +14,8 @@ use Rattle.table.specs.Left.{time_zone_left, dst_offset_left, load_left, reset_l
 
 -- a name has room in its place
 abbrev pub NameRoom : Option Name → Type 0
-NameRoom none = Unit {0}
-NameRoom (some n) = length n ≤ 64
+NameRoom None = Unit {0}
+NameRoom (Some n) = length n ≤ 64
 
 abbrev pub NamesRoom : List Zone → Type 0
 NamesRoom zs = All (λ z. NameRoom z.name) zs
@@ -63,7 +62,7 @@ DSTOffsetFollows =
 
 -- `load_follows`
 abbrev pub LoadFollows : Type 0
-LoadFollows = (s b : List ℕ) → table_size ≤ length s → AreBytes b → store_in (load_left s b) ≡ store_after (store_in s) (Load (some b))
+LoadFollows = (s b : List ℕ) → table_size ≤ length s → AreBytes b → store_in (load_left s b) ≡ store_after (store_in s) (Load (Some b))
 
 -- `reset_follows`
 abbrev pub ResetFollows : Type 0

@@ -10,8 +10,7 @@
 --    8     8    not used
 --   16   640    8 zones, 80 bytes each, written as in a record; what is left of the 80 is not used
 --  656   384    16 windows, 24 bytes each, written as in a record; what is left of the 24 is not used
-use Rattle.std.specs.Prelude.{ℕ, zero, suc, ◌+◌, ◌*◌, min, Bool, cond, not, List, [], ◌∷◌, length, take, drop, replicate, ◌==◌, nat_le}
-use Rattle.std.proofs.Math.Option.{Option, none, some}
+use Rattle.std.specs.Prelude.{ℕ, zero, suc, ◌+◌, ◌*◌, min, Bool, cond, not, List, [], ◌∷◌, length, take, drop, replicate, ◌==◌, nat_le, Option, None, Some}
 use Rattle.model.specs.Lists.{Name, Zone, Window, Lists}
 use Rattle.model.specs.Bytes.{bytes, signed, zone_bytes, window_bytes}
 use Rattle.model.specs.Rules.{Rules}
@@ -55,7 +54,7 @@ mark_at s at = not (byte_at s at == 0)
 
 -- a number of 8 bytes at `at`, where the mark is set
 abbrev pub maybe_at : List ℕ → ℕ → ℕ → Option ℕ
-maybe_at s mark at = cond (mark_at s mark) (some (word_at 8 s at)) none
+maybe_at s mark at = cond (mark_at s mark) (Some (word_at 8 s at)) None
 
 -- ## Entries: any bytes in their places stand for some zone and some window
 
@@ -68,7 +67,7 @@ zone_at s at =
     record {
       offset = signed (word_at 4 s at);
       start = word_at 8 s (at + 4);
-      name = cond (mark_at s (at + 12)) (some (name_at s at)) none;
+      name = cond (mark_at s (at + 12)) (Some (name_at s at)) None;
     }
 
 abbrev pub window_at : List ℕ → ℕ → Window

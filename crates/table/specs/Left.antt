@@ -1,6 +1,5 @@
 -- What the calls on a table say, and what they leave of it.
-use Rattle.std.specs.Prelude.{ℕ, Bool, true, false, cond, ◌&&◌, List, [], length, nat_le}
-use Rattle.std.proofs.Math.Option.{Option, none, some}
+use Rattle.std.specs.Prelude.{ℕ, Bool, true, false, cond, ◌&&◌, List, [], length, nat_le, Option, None, Some, Result, Ok, Err}
 use Rattle.model.specs.declared.Refusal.{Refusal}
 use Rattle.model.specs.declared.Refusal.TheVariants as R
 use Rattle.model.specs.Lists.{Zone, Window, Lists, empty}
@@ -8,8 +7,6 @@ use Rattle.model.specs.Bytes.{read_zones, read_windows, read_record}
 use Rattle.model.specs.Rules.{Rules, allowed}
 use Rattle.model.specs.History.{SetTimeZone, SetDSTOffset}
 use Rattle.model.specs.Output.{no_space}
-use Rattle.rules.specs.declared.Verdict.{Verdict}
-use Rattle.rules.specs.declared.Verdict.TheVariants as Said
 use Rattle.rules.specs.Verdicts.{zones_tested, windows_tested, record_tested}
 use Rattle.table.specs.Layout.{table_size, zone_limit_in, window_limit_in, rules_in, lists_in, with_windows, with_lists, counted, new_table}
 
@@ -19,36 +16,36 @@ use Rattle.table.specs.Layout.{table_size, zone_limit_in, window_limit_in, rules
 unfoldable pub makes : List ℕ → Rules → Bool
 makes s r = nat_le table_size (length s) && allowed r
 
-abbrev pub new_said : List ℕ → Rules → Verdict
-new_said s r = cond (makes s r) Said.Accepted (Said.TurnedDown R.BadLimits)
+abbrev pub new_said : List ℕ → Rules → Result (Unit {0}) Refusal
+new_said s r = cond (makes s r) (Ok tt) (Err R.BadLimits)
 
 abbrev pub new_left : List ℕ → Rules → List ℕ
 new_left s r = cond (makes s r) (new_table s r) s
 
 -- ## What is said of a request, in `room` bytes for the record that an accepted one stores; the room is tested last
 
-abbrev pub with_room : Bool → Verdict → Verdict
-with_room short Said.Accepted = cond short (Said.TurnedDown R.NoSpace) Said.Accepted
-with_room short (Said.TurnedDown cause) = Said.TurnedDown cause
+abbrev pub with_room : Bool → Result (Unit {0}) Refusal → Result (Unit {0}) Refusal
+with_room short (Ok tt) = cond short (Err R.NoSpace) (Ok tt)
+with_room short (Err cause) = Err cause
 
-unfoldable pub time_zone_said : List ℕ → List ℕ → ℕ → Verdict
+unfoldable pub time_zone_said : List ℕ → List ℕ → ℕ → Result (Unit {0}) Refusal
 time_zone_said s request room =
     with_room (no_space (rules_in s) (lists_in s) (record { call = SetTimeZone request; room = room })) (zones_tested (zone_limit_in s) request)
 
-unfoldable pub dst_offset_said : List ℕ → List ℕ → ℕ → Verdict
+unfoldable pub dst_offset_said : List ℕ → List ℕ → ℕ → Result (Unit {0}) Refusal
 dst_offset_said s request room =
     with_room (no_space (rules_in s) (lists_in s) (record { call = SetDSTOffset request; room = room })) (windows_tested (window_limit_in s) request)
 
-unfoldable pub load_said : List ℕ → List ℕ → Verdict
+unfoldable pub load_said : List ℕ → List ℕ → Result (Unit {0}) Refusal
 load_said s stored = record_tested (zone_limit_in s) (window_limit_in s) stored
 
 -- ## What is left
 
 -- SetTimeZone: the zones of an accepted request, no window, and one change counted; else nothing changes
-abbrev pub zones_left : Verdict → Option (List Zone) → List ℕ → List ℕ
-zones_left Said.Accepted none s = s
-zones_left Said.Accepted (some zs) s = counted (with_lists s (record { zones = zs; windows = [] }))
-zones_left (Said.TurnedDown cause) o s = s
+abbrev pub zones_left : Result (Unit {0}) Refusal → Option (List Zone) → List ℕ → List ℕ
+zones_left (Ok tt) None s = s
+zones_left (Ok tt) (Some zs) s = counted (with_lists s (record { zones = zs; windows = [] }))
+zones_left (Err cause) o s = s
 
 unfoldable pub time_zone_left : List ℕ → List ℕ → ℕ → List ℕ
 time_zone_left s request room = zones_left (time_zone_said s request room) (read_zones request) s
@@ -66,19 +63,19 @@ empties R.BadLimits = false
 empties R.NoSpace = false
 
 -- SetDSTOffset: the windows of an accepted request, and one change counted
-abbrev pub windows_left : Verdict → Option (List Window) → List ℕ → List ℕ
-windows_left Said.Accepted none s = s
-windows_left Said.Accepted (some ws) s = counted (with_windows s ws)
-windows_left (Said.TurnedDown cause) o s = cond (empties cause) (counted (with_windows s [])) s
+abbrev pub windows_left : Result (Unit {0}) Refusal → Option (List Window) → List ℕ → List ℕ
+windows_left (Ok tt) None s = s
+windows_left (Ok tt) (Some ws) s = counted (with_windows s ws)
+windows_left (Err cause) o s = cond (empties cause) (counted (with_windows s [])) s
 
 unfoldable pub dst_offset_left : List ℕ → List ℕ → ℕ → List ℕ
 dst_offset_left s request room = windows_left (dst_offset_said s request room) (read_windows request) s
 
 -- a load: both lists of an accepted record, and no change counted; else nothing changes
-abbrev pub lists_left : Verdict → Option Lists → List ℕ → List ℕ
-lists_left Said.Accepted none s = s
-lists_left Said.Accepted (some l) s = with_lists s l
-lists_left (Said.TurnedDown cause) o s = s
+abbrev pub lists_left : Result (Unit {0}) Refusal → Option Lists → List ℕ → List ℕ
+lists_left (Ok tt) None s = s
+lists_left (Ok tt) (Some l) s = with_lists s l
+lists_left (Err cause) o s = s
 
 unfoldable pub load_left : List ℕ → List ℕ → List ℕ
 load_left s stored = lists_left (load_said s stored) (read_record stored) s

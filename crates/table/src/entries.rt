@@ -3,15 +3,9 @@ ghost use Rattle.std.specs.Prelude.{◌≡◌, ◌+◌, ◌≤◌, length, take,
 ghost use Rattle.model.specs.Bytes.{zone_bytes, window_bytes, all_bytes};
 ghost use Rattle.word.specs.Place.{placed, put};
 ghost use Rattle.table.specs.Layout.{zone_place, window_place, put_entries};
-ghost use Rattle.table.specs.Held.{zone_length_at, window_length_at, Held, zones_from, windows_from};
+ghost use Rattle.table.specs.Held.{Held, Whole, parts_from, end_of, zones_from, windows_from};
 
-use crate::layout::{MARK, NAME, NAME_LENGTH, WINDOW_SIZE, WINDOWS, ZONE_SIZE, ZONES};
-use word::or_zero::u8_at;
-
-// How many bytes an entry has behind whose mark nothing stands, and a window with an end.
-pub(crate) const UNMARKED: usize = 13;
-
-pub(crate) const ENDED: usize = 21;
+use crate::kind::{Kind, Windows, Zones};
 
 // Copies n bytes from `from` on to `at`.
 pub(crate) fn copy(out: &mut [u8], at: usize, s: &[u8], from: usize, n: usize)
@@ -22,33 +16,25 @@ pub(crate) fn copy(out: &mut [u8], at: usize, s: &[u8], from: usize, n: usize)
 }
 
 // The same where there is room.
-pub(crate) fn copy_where_fits(out: &mut [u8], at: usize, s: &[u8], from: usize, n: usize)
+fn copy_where_fits(out: &mut [u8], at: usize, s: &[u8], from: usize, n: usize)
     requires { from + n ≤ length s.now }
     ensures { out.new ≡ placed out.old at (take n (drop from s.now)) }
 {
     word::copy(out, at, s, from, n);
 }
 
-// How many bytes the zone at `at` has.
-fn zone_length(s: &[u8], at: usize) -> usize
-    requires { at + 13 ≤ length s.now }
-    ensures { result ≡ zone_length_at s.now at }
+// Copies the n entries of a kind from `from` on to their places, and answers the place after them.
+fn put_all<K: Kind>(table: &mut [u8], s: &[u8], from: usize, n: u8) -> usize
+    requires { Whole K.length_at s.now from n }
+    ensures { (table.new ≡ put_entries K.place_of (λ bs. bs) table.old 0 (parts_from K.length_at s.now from n)) × (result ≡ end_of K.length_at s.now from n) }
 {
-    if u8_at(s, at + MARK) == 0 {
-        return UNMARKED;
+    let mut at = from;
+    for i in 0..n as usize {
+        let m = K::length(s, at);
+        copy_where_fits(table, K::place(i), s, at, m);
+        at += m;
     }
-    NAME + (u8_at(s, at + NAME_LENGTH) as usize)
-}
-
-// How many bytes the window at `at` has.
-fn window_length(s: &[u8], at: usize) -> usize
-    requires { at + 13 ≤ length s.now }
-    ensures { result ≡ window_length_at s.now at }
-{
-    if u8_at(s, at + MARK) == 0 {
-        return UNMARKED;
-    }
-    ENDED
+    at
 }
 
 // Copies the n zones from `from` on to their places, and answers the place after them.
@@ -56,16 +42,7 @@ pub(crate) fn put_zones(table: &mut [u8], s: &[u8], from: usize, n: u8) -> usize
     requires { Held zone_bytes s.now from n (zones_from s.now from n) }
     ensures { (table.new ≡ put_entries zone_place zone_bytes table.old 0 (zones_from s.now from n)) × (result ≡ from + length (all_bytes zone_bytes (zones_from s.now from n))) }
 {
-    let count = n as usize;
-    let mut at = from;
-    let mut i: usize = 0;
-    while i < count {
-        let m = zone_length(s, at);
-        copy_where_fits(table, ZONES + ZONE_SIZE * i, s, at, m);
-        at += m;
-        i += 1;
-    }
-    at
+    put_all::<Zones>(table, s, from, n)
 }
 
 // Copies the n windows from `from` on to their places.
@@ -73,13 +50,5 @@ pub(crate) fn put_windows(table: &mut [u8], s: &[u8], from: usize, n: u8)
     requires { Held window_bytes s.now from n (windows_from s.now from n) }
     ensures { table.new ≡ put_entries window_place window_bytes table.old 0 (windows_from s.now from n) }
 {
-    let count = n as usize;
-    let mut at = from;
-    let mut i: usize = 0;
-    while i < count {
-        let m = window_length(s, at);
-        copy_where_fits(table, WINDOWS + WINDOW_SIZE * i, s, at, m);
-        at += m;
-        i += 1;
-    }
+    put_all::<Windows>(table, s, from, n);
 }

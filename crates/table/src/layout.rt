@@ -1,9 +1,7 @@
 // The places of a table, and its small numbers.
-ghost use Rattle.std.specs.Prelude.{◌≡◌, ◌<◌, ◌≤◌, length, replicate};
-ghost use Rattle.word.specs.Place.{put};
-ghost use Rattle.table.specs.Layout.{count_in, zone_count, window_count, zone_limit_in, window_limit_in, generation_in, zone_place, window_place, counted, zone_count_place, new_table};
+ghost use Rattle.std.specs.Prelude.{◌≡◌, ◌<◌};
+ghost use Rattle.table.specs.Layout.{count_in, zone_count, window_count, zone_limit_in, window_limit_in, generation_in, counted, new_table};
 
-use word::least;
 use word::or_zero::u8_at;
 
 // How many bytes a table has.
@@ -34,12 +32,15 @@ pub const WINDOWS: usize = 656;
 
 pub const WINDOW_SIZE: usize = 24;
 
-// Inside a place: the start, the mark, and behind it a window's end, or the length of a zone's name and the name.
+// Inside a place: the start, the mark, and behind it a window's end, or the length of a zone's name and the name; where the mark is 0
+// an entry ends at END, and a window with an end at ENDED.
 pub const START: usize = 4;
 
 pub const MARK: usize = 12;
 
 pub const END: usize = 13;
+
+pub(crate) const ENDED: usize = 21;
 
 pub const NAME_LENGTH: usize = 13;
 
@@ -56,7 +57,7 @@ fn count_at(table: &[u8], at: usize, most: usize) -> usize
     if table.len() < SIZE {
         return 0;
     }
-    least(table[at] as usize, most)
+    (table[at] as usize).min(most)
 }
 
 // How many zones there are.
@@ -77,14 +78,14 @@ pub fn window_count(table: &[u8]) -> usize
 pub fn zone_limit(table: &[u8]) -> usize
     ensures { result ≡ zone_limit_in table.now }
 {
-    least(u8_at(table, ZONE_LIMIT) as usize, MOST_ZONES)
+    (u8_at(table, ZONE_LIMIT) as usize).min(MOST_ZONES)
 }
 
 // How many windows the store takes.
 pub fn window_limit(table: &[u8]) -> usize
     ensures { result ≡ window_limit_in table.now }
 {
-    least(u8_at(table, WINDOW_LIMIT) as usize, MOST_WINDOWS)
+    (u8_at(table, WINDOW_LIMIT) as usize).min(MOST_WINDOWS)
 }
 
 // How many changes there were.
@@ -98,36 +99,8 @@ pub fn generation(table: &[u8]) -> u32
 pub(crate) fn count_change(table: &mut [u8])
     ensures { table.new ≡ counted table.old }
 {
-    let next = std::num::wrapping_add_u32(generation(table), 1);
+    let next = generation(table).wrapping_add(1);
     word::put_u32(table, GENERATION, next);
-}
-
-// Where the zone with index i stands.
-pub(crate) fn zone_place(i: usize) -> usize
-    requires { i < 8 }
-    ensures { result ≡ zone_place i }
-{
-    ZONES + ZONE_SIZE * i
-}
-
-// Where the window with index i stands.
-pub(crate) fn window_place(i: usize) -> usize
-    requires { i < 16 }
-    ensures { result ≡ window_place i }
-{
-    WINDOWS + WINDOW_SIZE * i
-}
-
-// Writes zeros behind the limits.
-fn put_zeros(table: &mut [u8])
-    requires { 1040 ≤ length table.old }
-    ensures { table.new ≡ put table.old zone_count_place (replicate 1038 0) }
-{
-    let mut i: usize = ZONE_COUNT;
-    while i < SIZE {
-        table[i] = 0;
-        i += 1;
-    }
 }
 
 // Writes a new table with these limits: no zone, no window and generation 0; on a slice that is too short nothing is written.
@@ -137,6 +110,6 @@ pub fn put_new(table: &mut [u8], zone_limit: u8, window_limit: u8)
     if SIZE <= table.len() {
         table[ZONE_LIMIT] = zone_limit;
         table[WINDOW_LIMIT] = window_limit;
-        put_zeros(table);
+        table[ZONE_COUNT..SIZE].fill(0);
     }
 }

@@ -3,40 +3,43 @@
 #![tactic(auto)]
 
 mod entries;
+mod kind;
 pub mod layout;
 pub mod write;
 
-ghost use Rattle.std.specs.Prelude.{◌≡◌, []};
+ghost use Rattle.std.specs.Prelude.{◌≡◌, ◌&&◌, nat_le, []};
 ghost use Rattle.model.specs.Rules.{allowed};
 ghost use Rattle.table.specs.Layout.{with_windows, counted};
 ghost use Rattle.table.specs.Left.{new_said, new_left, time_zone_said, time_zone_left, empties, dst_offset_said, dst_offset_left, load_said, load_left, reset_left};
 
 use layout::{MOST_WINDOWS, MOST_ZONES, SIZE, WINDOW_COUNT, ZONE_COUNT, count_change};
 use model::Refusal;
-use rules::Verdict;
 use word::or_zero::{put_u8, u8_at};
+
+// Whether a limit is one that `most` places allow.
+fn is_limit(limit: usize, most: usize) -> bool
+    ensures { result ≡ (nat_le 1 limit && nat_le limit most) }
+{
+    (1..=most).contains(&limit)
+}
 
 // Whether a store can be made with these limits.
 pub fn allowed(zone_limit: usize, window_limit: usize) -> bool
     ensures { result ≡ allowed (record { zone_limit = zone_limit; window_limit = window_limit }) }
 {
-    1 <= zone_limit
-        && (zone_limit <= MOST_ZONES && (1 <= window_limit && window_limit <= MOST_WINDOWS))
+    is_limit(zone_limit, MOST_ZONES) && is_limit(window_limit, MOST_WINDOWS)
 }
 
-// Makes a new store: these limits, no zone, no window and generation 0.
-pub fn new(table: &mut [u8], zone_limit: usize, window_limit: usize) -> Verdict
+// Makes a new store: these limits, no zone, no window and generation 0. The limits come one by one, as C hands them over.
+pub fn new(table: &mut [u8], zone_limit: usize, window_limit: usize) -> Result<(), Refusal>
     ensures { (result ≡ new_said table.old (record { zone_limit = zone_limit; window_limit = window_limit }))
         × (table.new ≡ new_left table.old (record { zone_limit = zone_limit; window_limit = window_limit })) }
 {
-    if table.len() < SIZE {
-        return Verdict::TurnedDown(Refusal::BadLimits);
+    if table.len() < SIZE || !allowed(zone_limit, window_limit) {
+        return Err(Refusal::BadLimits);
     }
-    if allowed(zone_limit, window_limit) {
-        layout::put_new(table, zone_limit as u8, window_limit as u8);
-        return Verdict::Accepted;
-    }
-    Verdict::TurnedDown(Refusal::BadLimits)
+    layout::put_new(table, zone_limit as u8, window_limit as u8);
+    Ok(())
 }
 
 // Leaves no window, and counts the change.
@@ -49,84 +52,68 @@ fn drop_windows(table: &mut [u8])
 
 // SetTimeZone, with room for a record of so many bytes: the zones of an accepted request are copied to their places, and there is no
 // window any more.
-pub fn set_time_zone(table: &mut [u8], request: &[u8], room: usize) -> Verdict
+pub fn set_time_zone(table: &mut [u8], request: &[u8], room: usize) -> Result<(), Refusal>
     ensures { (result ≡ time_zone_said table.old request.now room)
         × (table.new ≡ time_zone_left table.old request.now room) }
 {
-    match rules::set_time_zone(request, layout::zone_limit(table)) {
-        Verdict::TurnedDown(cause) => Verdict::TurnedDown(cause),
-        Verdict::Accepted => {
-            // The record is the request and an empty section of windows, one byte.
-            if room <= request.len() {
-                return Verdict::TurnedDown(Refusal::NoSpace);
-            }
-            let n = u8_at(request, 0);
-            put_u8(table, ZONE_COUNT, n);
-            entries::put_zones(table, request, 1, n);
-            drop_windows(table);
-            Verdict::Accepted
-        }
+    rules::set_time_zone(request, layout::zone_limit(table))?;
+    // The record is the request and an empty section of windows, one byte.
+    if room <= request.len() {
+        return Err(Refusal::NoSpace);
     }
+    let n = u8_at(request, 0);
+    put_u8(table, ZONE_COUNT, n);
+    entries::put_zones(table, request, 1, n);
+    drop_windows(table);
+    Ok(())
 }
 
 // Whether windows that are turned down for this cause leave none.
 fn empties(cause: Refusal) -> bool
     ensures { result ≡ empties cause }
 {
-    match cause {
-        Refusal::ConstraintError => true,
-        Refusal::ResourceExhausted => true,
-        _ => false,
-    }
+    matches!(cause, Refusal::ConstraintError | Refusal::ResourceExhausted)
 }
 
 // SetDSTOffset, with room for a record of so many bytes: the windows of an accepted request are copied to their places; turned down for
 // what they say they leave none.
-pub fn set_dst_offset(table: &mut [u8], request: &[u8], room: usize) -> Verdict
+pub fn set_dst_offset(table: &mut [u8], request: &[u8], room: usize) -> Result<(), Refusal>
     ensures { (result ≡ dst_offset_said table.old request.now room)
         × (table.new ≡ dst_offset_left table.old request.now room) }
 {
-    match rules::set_dst_offset(request, layout::window_limit(table)) {
-        Verdict::TurnedDown(cause) => {
-            if empties(cause) {
-                drop_windows(table);
-            }
-            Verdict::TurnedDown(cause)
+    if let Err(cause) = rules::set_dst_offset(request, layout::window_limit(table)) {
+        if empties(cause) {
+            drop_windows(table);
         }
-        Verdict::Accepted => {
-            // The record is the section of zones and the request.
-            if write::lacks_room(table, request.len(), room) {
-                return Verdict::TurnedDown(Refusal::NoSpace);
-            }
-            let n = u8_at(request, 0);
-            put_u8(table, WINDOW_COUNT, n);
-            entries::put_windows(table, request, 1, n);
-            count_change(table);
-            Verdict::Accepted
-        }
+        return Err(cause);
     }
+    // The record is the section of zones and the request.
+    if write::lacks_room(table, request.len(), room) {
+        return Err(Refusal::NoSpace);
+    }
+    let n = u8_at(request, 0);
+    put_u8(table, WINDOW_COUNT, n);
+    entries::put_windows(table, request, 1, n);
+    count_change(table);
+    Ok(())
 }
 
 // Loads a stored record: the entries of an accepted one are copied to their places, and no change is counted; else nothing changes.
-pub fn load(table: &mut [u8], stored: &[u8]) -> Verdict
+pub fn load(table: &mut [u8], stored: &[u8]) -> Result<(), Refusal>
     ensures { (result ≡ load_said table.old stored.now) × (table.new ≡ load_left table.old stored.now) }
 {
-    match rules::stored(
+    rules::stored(
         stored,
         layout::zone_limit(table),
         layout::window_limit(table),
-    ) {
-        Verdict::TurnedDown(cause) => Verdict::TurnedDown(cause),
-        Verdict::Accepted => {
-            let zones = u8_at(stored, 0);
-            put_u8(table, ZONE_COUNT, zones);
-            let at = entries::put_zones(table, stored, 1, zones);
-            let windows = u8_at(stored, at);
-            put_u8(table, WINDOW_COUNT, windows);
-            entries::put_windows(table, stored, at + 1, windows);
-            Verdict::Accepted
-        }
-    }
+    )?;
+    let zones = u8_at(stored, 0);
+    put_u8(table, ZONE_COUNT, zones);
+    let at = entries::put_zones(table, stored, 1, zones);
+    let windows = u8_at(stored, at);
+    put_u8(table, WINDOW_COUNT, windows);
+    entries::put_windows(table, stored, at + 1, windows);
+    Ok(())
 }
 
 // Factory reset: no zone and no window.

@@ -1,61 +1,31 @@
 // The record of a table, written straight from its places.
-ghost use Rattle.std.specs.Prelude.{◌≡◌, ◌+◌, ◌<◌, ◌≤◌, length, if◌then◌else◌, nat_le, nat_lt};
+ghost use Rattle.std.specs.Prelude.{◌≡◌, ℕ, ◌+◌, ◌<◌, ◌≤◌, length, if◌then◌else◌, nat_le, nat_lt};
 ghost use Rattle.model.specs.Lists.{empty};
-ghost use Rattle.model.specs.Bytes.{zone_bytes, window_bytes, zones_bytes, windows_bytes, record_bytes};
+ghost use Rattle.model.specs.Bytes.{zone_bytes, zones_bytes, windows_bytes, record_bytes};
 ghost use Rattle.word.specs.Place.{put};
 ghost use Rattle.record.specs.Written.{record_of};
-ghost use Rattle.table.specs.Layout.{mark_at, zone_at, window_at, zone_place, zones_in, windows_in, lists_in, table_size};
-ghost use Rattle.table.specs.Held.{head_bytes};
+ghost use Rattle.table.specs.Layout.{zone_at, zone_place, zones_in, windows_in, lists_in, table_size};
+ghost use Rattle.table.specs.Held.{section_in};
 
-use crate::entries::{ENDED, UNMARKED, copy};
+use crate::kind::{Kind, Windows, Zones};
 use crate::layout::{
-    END, MARK, MOST_NAME, NAME, NAME_LENGTH, SIZE, WINDOW_SIZE, WINDOWS, ZONE_SIZE, ZONES,
-    window_count, zone_count, zone_place,
+    END, MARK, MOST_NAME, NAME, NAME_LENGTH, SIZE, ZONE_SIZE, ZONES, window_count, zone_count,
 };
 use record::Record;
-use word::least;
-use word::or_zero::u8_at;
 
-// Writes offset, start and mark of the entry in the place `place` at `at`, and answers whether the mark is set; a mark above 1 is
-// written as 1.
-fn put_head(out: &mut [u8], at: usize, table: &[u8], place: usize) -> bool
-    requires { (place + 13 ≤ length table.now) × (at + 13 ≤ length out.old) }
-    ensures { (result ≡ mark_at table.now (place + 12)) × (out.new ≡ put out.old at (head_bytes table.now place)) }
+// Writes a section of the first n entries of a kind at `at`, and answers the place after it.
+fn put_section<K: Kind>(out: &mut [u8], at: usize, table: &[u8], n: usize) -> usize
+    requires count { n < 256 }
+    requires places { (i : ℕ) → i < n → K.place_of i + K.size ≤ length table.now }
+    requires room { at + length (section_in K.bytes_in K.place_of table.now n) ≤ length out.old }
+    ensures { (out.new ≡ put out.old at (section_in K.bytes_in K.place_of table.now n)) × (result ≡ at + length (section_in K.bytes_in K.place_of table.now n)) }
 {
-    copy(out, at, table, place, MARK);
-    let mark = u8_at(table, place + MARK);
-    if mark == 0 {
-        out[at + MARK] = 0;
-        return false;
+    out[at] = n as u8;
+    let mut next = at + 1;
+    for i in 0..n {
+        next = K::put(out, next, table, K::place(i));
     }
-    out[at + MARK] = 1;
-    true
-}
-
-// Writes the zone in the place `place` at `at`, and answers the place after it.
-fn put_zone(out: &mut [u8], at: usize, table: &[u8], place: usize) -> usize
-    requires { (place + 78 ≤ length table.now) × (at + length (zone_bytes (zone_at table.now place)) ≤ length out.old) }
-    ensures { (out.new ≡ put out.old at (zone_bytes (zone_at table.now place))) × (result ≡ at + length (zone_bytes (zone_at table.now place))) }
-{
-    if put_head(out, at, table, place) {
-        let n = least(u8_at(table, place + NAME_LENGTH) as usize, MOST_NAME);
-        out[at + NAME_LENGTH] = n as u8;
-        copy(out, at + NAME, table, place + NAME, n);
-        return at + NAME + n;
-    }
-    at + UNMARKED
-}
-
-// Writes the window in the place `place` at `at`, and answers the place after it.
-fn put_window(out: &mut [u8], at: usize, table: &[u8], place: usize) -> usize
-    requires { (place + 21 ≤ length table.now) × (at + length (window_bytes (window_at table.now place)) ≤ length out.old) }
-    ensures { (out.new ≡ put out.old at (window_bytes (window_at table.now place))) × (result ≡ at + length (window_bytes (window_at table.now place))) }
-{
-    if put_head(out, at, table, place) {
-        copy(out, at + END, table, place + END, 8);
-        return at + ENDED;
-    }
-    at + UNMARKED
+    next
 }
 
 // Writes the section of zones at `at`, and answers the place after it.
@@ -63,15 +33,7 @@ fn put_zones(out: &mut [u8], at: usize, table: &[u8]) -> usize
     requires { (table_size ≤ length table.now) × (at + length (zones_bytes (zones_in table.now)) ≤ length out.old) }
     ensures { (out.new ≡ put out.old at (zones_bytes (zones_in table.now))) × (result ≡ at + length (zones_bytes (zones_in table.now))) }
 {
-    let n = zone_count(table);
-    out[at] = n as u8;
-    let mut next = at + 1;
-    let mut i: usize = 0;
-    while i < n {
-        next = put_zone(out, next, table, ZONES + ZONE_SIZE * i);
-        i += 1;
-    }
-    next
+    put_section::<Zones>(out, at, table, zone_count(table))
 }
 
 // Writes the section of windows at `at`, and answers the place after it.
@@ -79,15 +41,7 @@ fn put_windows(out: &mut [u8], at: usize, table: &[u8]) -> usize
     requires { (table_size ≤ length table.now) × (at + length (windows_bytes (windows_in table.now)) ≤ length out.old) }
     ensures { (out.new ≡ put out.old at (windows_bytes (windows_in table.now))) × (result ≡ at + length (windows_bytes (windows_in table.now))) }
 {
-    let n = window_count(table);
-    out[at] = n as u8;
-    let mut next = at + 1;
-    let mut i: usize = 0;
-    while i < n {
-        next = put_window(out, next, table, WINDOWS + WINDOW_SIZE * i);
-        i += 1;
-    }
-    next
+    put_section::<Windows>(out, at, table, window_count(table))
 }
 
 // Writes the record at the front of a slice that has room for it, and answers its length.
@@ -99,17 +53,24 @@ fn put_record(out: &mut [u8], table: &[u8]) -> usize
     put_windows(out, at, table)
 }
 
-// The record of a table, and its length; bytes that are no table have the record of empty lists.
-pub fn record(table: &[u8]) -> Record
-    ensures { result ≡ record_of (if nat_le table_size (length table.now) then lists_in table.now else empty) }
+// The record of a table, and its length; bytes that are no table have the record of empty lists. It is filled where the caller keeps it: a
+// copy of it by value would cost 1 KB of stack more.
+pub fn fill(made: &mut Record, table: &[u8])
+    ensures { made.new ≡ record_of (if nat_le table_size (length table.now) then lists_in table.now else empty) }
 {
-    let mut made = Record {
-        bytes: [0u8; 962],
-        length: 2,
-    };
+    made.bytes = [0; 962];
+    made.length = 2;
     if SIZE <= table.len() {
         made.length = put_record(&mut made.bytes, table);
     }
+}
+
+// The same by value.
+pub fn record(table: &[u8]) -> Record
+    ensures { result ≡ record_of (if nat_le table_size (length table.now) then lists_in table.now else empty) }
+{
+    let mut made = Record::BLANK;
+    fill(&mut made, table);
     made
 }
 
@@ -118,23 +79,20 @@ fn zone_length(table: &[u8], i: usize) -> usize
     requires { (i < 8) × (table_size ≤ length table.now) }
     ensures { result ≡ length (zone_bytes (zone_at table.now (zone_place i))) }
 {
-    let place = zone_place(i);
+    let place = ZONES + ZONE_SIZE * i;
     if table[place + MARK] == 0 {
-        return UNMARKED;
+        return END;
     }
-    NAME + least(table[place + NAME_LENGTH] as usize, MOST_NAME)
+    NAME + (table[place + NAME_LENGTH] as usize).min(MOST_NAME)
 }
 
 // How many bytes the section of zones has.
 fn zones_length(table: &[u8]) -> usize
     ensures { result ≡ length (zones_bytes (zones_in table.now)) }
 {
-    let n = zone_count(table);
     let mut total: usize = 1;
-    let mut i: usize = 0;
-    while i < n {
+    for i in 0..zone_count(table) {
         total += zone_length(table, i);
-        i += 1;
     }
     total
 }
@@ -144,8 +102,5 @@ pub(crate) fn lacks_room(table: &[u8], len: usize, room: usize) -> bool
     ensures { result ≡ nat_lt room (length (zones_bytes (zones_in table.now)) + len) }
 {
     let zones = zones_length(table);
-    if room < zones {
-        return true;
-    }
-    room - zones < len
+    room < zones || room - zones < len
 }

@@ -1,20 +1,12 @@
 -- What the records of this crate stand for in the definitions. Each is injective, so a contract that equates meanings leaves one result.
-use Rattle.std.specs.Prelude.{Bool, cond, List, [], ◌++◌, ℕ}
-use Rattle.std.proofs.Math.Option.{Option, none, some}
+use Rattle.std.specs.Prelude.{Bool, cond, List, [], ◌++◌, ℕ, Option, None, Some}
 use Rattle.model.specs.Basics.{when}
-use Rattle.model.specs.Maybe.{option_u64}
 use Rattle.model.specs.Answers.{Effect, emit, MissingTrustedTimeSource, TimeFailure}
 use Rattle.model.specs.Clock.{utc_reports}
 use Rattle.model.specs.Retries as R
 use Rattle.rtc.specs.Meaning.{clock_of, moment_stored}
 use Rattle.time_sync_client.specs.declared.TimeSyncClient.{TimeSyncClient}
-use Rattle.time_sync_client.specs.declared.Utc.{Utc}
-use Rattle.time_sync_client.specs.declared.Utc.TheVariants as U
-use Rattle.time_sync_client.specs.declared.Granularity.{Granularity}
-use Rattle.time_sync_client.specs.declared.Granularity.TheVariants as G
 use Rattle.time_sync_client.specs.declared.Reading as D
-use Rattle.time_sync_client.specs.declared.Outcome.{Outcome}
-use Rattle.time_sync_client.specs.declared.Outcome.TheVariants as O
 use Rattle.time_sync_client.specs.declared.Refresh.{Refresh}
 use Rattle.time_sync_client.specs.declared.Refresh.TheVariants as F
 use Rattle.time_sync_client.specs.declared.Wait.{Wait}
@@ -28,28 +20,18 @@ client_of c =
     record {
       period = c.period;
       retry = c.retry;
-      missing_at = option_u64 c.missing_source_at;
-      failure_at = option_u64 c.time_failure_at;
+      missing_at = c.missing_source_at;
+      failure_at = c.time_failure_at;
     }
 
 -- ## An attempt's outcome
 
--- a moment, or none where it is null
-abbrev pub option_utc : Utc → Option ℕ
-option_utc U.Null = none
-option_utc (U.At moment) = some moment
-
--- a granularity's number, or none where it is missing
-abbrev pub option_number : Granularity → Option ℕ
-option_number G.Missing = none
-option_number (G.Number n) = some n
-
 abbrev pub told_of : D.Reading → R.Told
-told_of r = record { utc = option_utc r.utc_time; granularity = option_number r.granularity }
+told_of r = record { utc = r.utc_time; granularity = r.granularity }
 
-abbrev pub outcome_of : Outcome → R.Outcome
-outcome_of (O.Reading r) = R.told (told_of r)
-outcome_of O.Failed = R.failed
+abbrev pub outcome_of : Option D.Reading → R.Outcome
+outcome_of (Some r) = R.told (told_of r)
+outcome_of None = R.failed
 
 -- what an attempt got
 abbrev pub refresh_of : Refresh → R.Refresh
@@ -76,7 +58,7 @@ event_effects missing failure = when missing (emit MissingTrustedTimeSource) ++ 
 
 -- neither wakes the timer
 abbrev pub effects_of : Effects → List Effect
-effects_of e = setting_effects e.applied (option_u64 e.stored) ++ event_effects e.missing_trusted_time_source e.time_failure
+effects_of e = setting_effects e.applied (e.stored) ++ event_effects e.missing_trusted_time_source e.time_failure
 
 abbrev pub step_of : Step → R.Step
 step_of s = record { client = client_of s.client; clock = clock_of s.rtc; effects = effects_of s.effects; next = next_of s.next }

@@ -14,13 +14,6 @@ pub struct Seen {
     pub usable: bool,
 }
 
-// What the timer last saw; nothing before its first look at a reliable clock.
-#[derive(Clone, Copy)]
-pub enum LastSeen {
-    Nothing,
-    Saw(Seen),
-}
-
 // How long the timer sleeps: it never looks, until it is woken, or so many microseconds or until it is woken.
 #[derive(Clone, Copy)]
 pub enum Sleep {
@@ -29,14 +22,12 @@ pub enum Sleep {
     AtMost(u64),
 }
 
-// What was seen from now on, which events are due and what they carry, a name by its place in the table, and the sleep.
+// What was seen from now on, each event that is due with what it carries, a name by its place in the table, and the sleep.
 #[derive(Clone, Copy)]
 pub struct Look {
-    pub seen: LastSeen,
-    pub zone_status: bool,
-    pub zone: ZoneShown,
-    pub dst_status: bool,
-    pub dst_active: bool,
+    pub seen: Option<Seen>,
+    pub zone_status: Option<ZoneShown>,
+    pub dst_status: Option<bool>,
     pub dst_table_empty: bool,
     pub sleep: Sleep,
 }

@@ -1,9 +1,10 @@
 // What a clock answers to a script: one clock of build moment 0, which is lent to each call that changes it and is read by value.
-ghost use Rattle.std.specs.Prelude.{◌≤◌};
+ghost use Rattle.std.specs.Prelude.{◌<◌, length, IfSome};
 
-use crate::{held, text};
-use model::{GranularityRead, MaybeU64, SourceRead, TimeGranularity, TimeSource};
-use rtc::{LoadAnswer, MaybeSource, Rtc, SourceStored, TrustedTimeSource, UtcTime};
+use crate::text;
+use crate::text::numbered;
+use model::{TimeGranularity, TimeSource};
+use rtc::{Rtc, SourceStored, TrustedTimeSource, UtcTime};
 use word::or_zero::{u8_at, u16_at, u64_at};
 
 // The place in a step of what stands behind its letter: a moment, a build moment or a tick.
@@ -43,30 +44,25 @@ const SETTING_SIZE: usize = 19;
 
 const LOAD_SIZE: usize = 30;
 
-// How many bytes the step of a letter has, and 0 for a letter that names none.
-fn size(letter: u8) -> usize {
+// How many bytes the step of a letter has, if the letter names one.
+fn size(letter: u8) -> Option<usize>
+    ensures { IfSome result (λ n. 0 < n) }
+{
     match letter {
-        b'S' | b'P' => SETTING_SIZE,
-        b'T' => SOURCE_SIZE,
-        b'C' => LETTER_SIZE,
-        b'L' => LOAD_SIZE,
-        b'R' | b'U' => NUMBER_SIZE,
-        _ => 0,
+        b'S' | b'P' => Some(SETTING_SIZE),
+        b'T' => Some(SOURCE_SIZE),
+        b'C' => Some(LETTER_SIZE),
+        b'L' => Some(LOAD_SIZE),
+        b'R' | b'U' => Some(NUMBER_SIZE),
+        _ => None,
     }
 }
 
-// The same, and 0 where fewer bytes are left.
-fn size_within(letter: u8, left: usize) -> usize
-    ensures { result ≤ left }
+// The step at the front, and what stands after it; nothing where no step can be read.
+fn front(s: &[u8]) -> Option<(&[u8], &[u8])>
+    ensures { IfSome result (λ parts. length parts.1.now < length s.now) }
 {
-    let used = size(letter);
-    if used <= left { used } else { 0 }
-}
-
-// Writes a word and a number.
-fn numbered(name: &[u8], n: u64) {
-    text::words(name);
-    text::decimal(n);
+    s.split_at_checked(size(*s.first()?)?)
 }
 
 // Writes the fabric index, the node and the endpoint of a source.
@@ -86,62 +82,51 @@ fn told_setting(changed: bool) {
 }
 
 // A setting.
-fn set(rtc: Rtc, s: &[u8], granularity: TimeGranularity, source: TimeSource) -> Rtc {
-    let after = held::set_utc_time(
-        rtc,
-        u64_at(s, ARGUMENT),
-        granularity,
-        source,
-        u64_at(s, TICK),
-    );
-    told_setting(after.changed);
-    after.rtc
+fn set(rtc: &mut Rtc, s: &[u8], granularity: TimeGranularity, source: TimeSource) {
+    let moment = u64_at(s, ARGUMENT);
+    told_setting(rtc_lent::set_utc_time(rtc, moment, granularity, source, u64_at(s, TICK)));
 }
 
 // A setting that has its moment stored where it is a day or more from the persisted one.
-fn persist(rtc: Rtc, s: &[u8], granularity: TimeGranularity, source: TimeSource) -> Rtc {
+fn persist(rtc: &mut Rtc, s: &[u8], granularity: TimeGranularity, source: TimeSource) {
     let moment = u64_at(s, ARGUMENT);
-    let after = held::set_utc_time_persist(rtc, moment, granularity, source, u64_at(s, TICK));
-    let answer = after.answer;
+    let answer = rtc_lent::set_utc_time_persist(rtc, moment, granularity, source, u64_at(s, TICK));
     told_setting(answer.changed);
-    let stored = answer.stored;
-    match stored {
-        MaybeU64::Nothing => text::words(b", not stored"),
-        MaybeU64::Is(utc_us) => numbered(b", stored ", utc_us),
+    match answer.stored {
+        None => text::words(b", not stored"),
+        Some(utc_us) => numbered(b", stored ", utc_us),
     }
-    after.rtc
 }
 
 // A setting: moment, granularity, time source, tick; a number that names no granularity or no time source changes nothing.
-fn setting(rtc: Rtc, s: &[u8], persists: bool) -> Rtc {
-    let GranularityRead::Is(granularity) = numbers::granularity_of(u8_at(s, GRANULARITY)) else {
+fn setting(rtc: &mut Rtc, s: &[u8], persists: bool) {
+    let Ok(granularity) = TimeGranularity::try_from(u8_at(s, GRANULARITY)) else {
         text::words(b"no granularity");
-        return rtc;
+        return;
     };
-    let SourceRead::Is(source) = numbers::source_of(u8_at(s, TIME_SOURCE)) else {
+    let Ok(source) = TimeSource::try_from(u8_at(s, TIME_SOURCE)) else {
         text::words(b"no time source");
-        return rtc;
+        return;
     };
     if persists {
-        return persist(rtc, s, granularity, source);
+        persist(rtc, s, granularity, source);
+    } else {
+        set(rtc, s, granularity, source);
     }
-    set(rtc, s, granularity, source)
 }
 
 // The source in a step that installs or loads one: fabric index, node, endpoint.
-fn source_in(s: &[u8]) -> MaybeSource {
-    MaybeSource::Is(TrustedTimeSource {
+fn source_in(s: &[u8]) -> TrustedTimeSource {
+    TrustedTimeSource {
         fab_idx: u8_at(s, FABRIC),
         node_id: u64_at(s, NODE),
         endpoint: u16_at(s, ENDPOINT),
-    })
+    }
 }
 
 // A trusted time source is installed, or cleared.
-fn trust(rtc: Rtc, source: MaybeSource) -> Rtc {
-    let after = held::set_trusted_time_source_persist(rtc, source);
-    let stored = after.stored;
-    match stored {
+fn trust(rtc: &mut Rtc, source: Option<TrustedTimeSource>) {
+    match rtc_lent::set_trusted_time_source_persist(rtc, source) {
         SourceStored::Same => text::words(b"same source"),
         SourceStored::Stored(new) => {
             text::words(b"stored source");
@@ -149,40 +134,30 @@ fn trust(rtc: Rtc, source: MaybeSource) -> Rtc {
         }
         SourceStored::Removed => text::words(b"removed source"),
     }
-    after.rtc
 }
 
 // The source that a load finds.
-fn stored_source(s: &[u8]) -> MaybeSource {
-    if u8_at(s, SOURCE_MARK) == 0 {
-        return MaybeSource::Nothing;
-    }
-    source_in(s)
+fn stored_source(s: &[u8]) -> Option<TrustedTimeSource> {
+    (u8_at(s, SOURCE_MARK) != 0).then_some(source_in(s))
 }
 
 // The moment that a load finds.
-fn stored_moment(s: &[u8]) -> MaybeU64 {
-    if u8_at(s, MOMENT_MARK) == 0 {
-        return MaybeU64::Nothing;
-    }
-    MaybeU64::Is(u64_at(s, MOMENT))
+fn stored_moment(s: &[u8]) -> Option<u64> {
+    (u8_at(s, MOMENT_MARK) != 0).then_some(u64_at(s, MOMENT))
 }
 
 // A load: maybe a source, maybe a moment, and the build moment.
-fn load(rtc: Rtc, s: &[u8]) -> Rtc {
-    let after = held::load_persist(rtc, u64_at(s, BUILD), stored_moment(s), stored_source(s));
-    let answer = after.answer;
-    match answer {
-        LoadAnswer::Done => text::words(b"loaded"),
-        LoadAnswer::Refused(cause) => numbered(b"refused ", numbers::refusal_number(cause) as u64),
+fn load(rtc: &mut Rtc, s: &[u8]) {
+    match rtc_lent::load_persist(rtc, u64_at(s, BUILD), stored_moment(s), stored_source(s)) {
+        Ok(()) => text::words(b"loaded"),
+        Err(cause) => numbered(b"refused ", u8::from(cause) as u64),
     }
-    after.rtc
 }
 
 // A reset: the build moment.
-fn reset(rtc: Rtc, s: &[u8]) -> Rtc {
+fn reset(rtc: &mut Rtc, s: &[u8]) {
     text::words(b"reset");
-    held::reset_persist(rtc, u64_at(s, ARGUMENT))
+    rtc_lent::reset_persist(rtc, u64_at(s, ARGUMENT));
 }
 
 // Writes a reading of the UTC time.
@@ -194,10 +169,10 @@ fn told_utc(utc: UtcTime) {
 }
 
 // Writes the trusted time source, or that there is none.
-fn told_trusted(trusted: MaybeSource) {
+fn told_trusted(trusted: Option<TrustedTimeSource>) {
     match trusted {
-        MaybeSource::Nothing => text::words(b", none trusted"),
-        MaybeSource::Is(source) => {
+        None => text::words(b", none trusted"),
+        Some(source) => {
             text::words(b", trusted");
             told_source(source);
         }
@@ -207,47 +182,38 @@ fn told_trusted(trusted: MaybeSource) {
 // Writes everything that a clock says of itself at a tick.
 fn reading(rtc: Rtc, tick: u64) {
     told_utc(rtc.utc_time(tick));
-    let granularity = rtc.utc_time_granularity();
-    numbered(
-        b", granularity ",
-        numbers::granularity_number(granularity) as u64,
-    );
-    let source = rtc.utc_time_source();
-    numbered(b", time source ", numbers::source_number(source) as u64);
-    told_trusted(rtc.trusted_time_source());
+    let granularity = u8::from(rtc.utc_time_granularity());
+    numbered(b", granularity ", granularity as u64);
+    let source = u8::from(rtc.utc_time_source());
+    numbered(b", time source ", source as u64);
+    told_trusted(rtc.trusted_time_source);
 }
 
-// One step, by its letter; answers the clock after it.
-fn step(rtc: Rtc, s: &[u8]) -> Rtc {
+// One step, by its letter: a reading, where it is no other.
+fn step(rtc: &mut Rtc, s: &[u8]) {
     match u8_at(s, 0) {
         b'S' => setting(rtc, s, false),
         b'P' => setting(rtc, s, true),
-        b'T' => trust(rtc, source_in(s)),
-        b'C' => trust(rtc, MaybeSource::Nothing),
+        b'T' => trust(rtc, Some(source_in(s))),
+        b'C' => trust(rtc, None),
         b'L' => load(rtc, s),
         b'R' => reset(rtc, s),
-        _ => {
-            reading(rtc, u64_at(s, ARGUMENT));
-            rtc
-        }
+        _ => reading(*rtc, u64_at(s, ARGUMENT)),
     }
 }
 
-// Runs the steps of a script, and writes what each answers; it ends where no step can be read.
+// Runs the steps of a script on one clock, and writes what each answers; it ends where no step can be read.
 pub(crate) fn script(s: &[u8]) {
     let mut rtc = Rtc::new(0);
-    let mut at: usize = 0;
-    while at < s.len() {
-        let used = size_within(s[at], s.len() - at);
-        if used == 0 {
-            text::words(b"no step");
-            return;
-        }
-        let end = at + used;
-        rtc = step(rtc, &s[at..end]);
-        if end < s.len() {
+    let mut rest = s;
+    while let Some((first, after)) = front(rest) {
+        step(&mut rtc, first);
+        if !after.is_empty() {
             text::words(b"; ");
         }
-        at = end;
+        rest = after;
+    }
+    if !rest.is_empty() {
+        text::words(b"no step");
     }
 }

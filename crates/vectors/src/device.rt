@@ -1,4 +1,6 @@
 // What a device answers to a script: a new image with a list store of limits 2 and 2, and entry points called one after the other.
+ghost use Rattle.std.specs.Prelude.{◌<◌, length, IfSome};
+
 use crate::{RECORD_MAX, listing, text};
 use controller::attributes::timesync_local_time;
 use controller::clock::{timesync_new, timesync_set_trusted_time_source, timesync_set_utc_time};
@@ -33,119 +35,106 @@ const HEAD_SIZE: usize = 5;
 
 // Writes the number of what a call returned, which is its lowest byte: 0 where the call was taken.
 pub(crate) fn told(returned: u64) {
-    text::words(b" ");
-    text::decimal(returned % 256);
+    text::numbered(b" ", returned % 256);
 }
 
-// SetUTCTime: moment, granularity, tick.
-fn utc_time(image: &mut [u8], s: &[u8]) -> usize {
-    if s.len() < UTC_SIZE {
-        return 0;
-    }
-    let moment = u64_at(s, ARGUMENT);
-    let tick = u64_at(s, TICK);
-    told(timesync_set_utc_time(image, moment, s[GRANULARITY], 0, 0, tick));
-    UTC_SIZE
+// SetUTCTime: moment, granularity, tick; answers what stands after the step.
+fn utc_time<'a>(image: &mut [u8], s: &'a [u8]) -> Option<&'a [u8]>
+    ensures { IfSome result (λ rest. length rest.now < length s.now) }
+{
+    let (step, rest) = s.split_at_checked(UTC_SIZE)?;
+    let moment = u64_at(step, ARGUMENT);
+    let granularity = u8_at(step, GRANULARITY);
+    told(timesync_set_utc_time(image, moment, granularity, 0, 0, u64_at(step, TICK)));
+    Some(rest)
 }
 
-// LocalTime: tick.
-fn local(image: &[u8], s: &[u8]) -> usize {
+// LocalTime at a tick.
+fn local(image: &[u8], tick: u64) {
     let mut there: u64 = 0;
     let mut utc: u64 = 0;
-    let r = timesync_local_time(image, u64_at(s, ARGUMENT), &mut there, &mut utc);
+    let r = timesync_local_time(image, tick, &mut there, &mut utc);
     if r != 0 {
         told(r);
     } else if there == 0 {
         text::words(b" null");
     } else {
-        text::words(b" ");
-        text::decimal(utc);
+        text::numbered(b" ", utc);
     }
-    NUMBER_SIZE
 }
 
 // SetTimeZone or SetDSTOffset with a section, or a load of a record.
 fn asked(image: &mut [u8], letter: u8, given: &[u8]) -> u64 {
-    if letter == b'R' {
-        return timesync_load_lists(image, 1, given);
-    }
     let mut out = [0u8; RECORD_MAX];
     let mut used: u64 = 0;
-    if letter == b'Z' {
-        return timesync_set_time_zone(image, given, &mut out, &mut used);
+    match letter {
+        b'R' => timesync_load_lists(image, 1, given),
+        b'Z' => timesync_set_time_zone(image, given, &mut out, &mut used),
+        _ => timesync_set_dst_offset(image, given, &mut out, &mut used),
     }
-    timesync_set_dst_offset(image, given, &mut out, &mut used)
 }
 
-// A list command or a load: the length of its section or record, and its bytes.
-fn list(image: &mut [u8], s: &[u8], letter: u8) -> usize {
-    if s.len() < HEAD_SIZE {
-        return 0;
-    }
-    let n = u32_at(s, ARGUMENT) as usize;
-    if s.len() - HEAD_SIZE < n {
-        return 0;
-    }
-    told(asked(image, letter, &s[HEAD_SIZE..HEAD_SIZE + n]));
-    HEAD_SIZE + n
+// A list command or a load: the length of its section or record, and its bytes; answers what stands after the step.
+fn list<'a>(image: &mut [u8], s: &'a [u8], letter: u8) -> Option<&'a [u8]>
+    ensures { IfSome result (λ rest. length rest.now < length s.now) }
+{
+    let (head, behind) = s.split_at_checked(HEAD_SIZE)?;
+    let (given, rest) = behind.split_at_checked(u32_at(head, ARGUMENT) as usize)?;
+    told(asked(image, letter, given));
+    Some(rest)
 }
 
-// SetTrustedTimeSource with a node 1 and its endpoint 2: the fabric index.
-fn trusted(image: &mut [u8], fabric: u8) -> usize {
+// SetTrustedTimeSource for a fabric, with a node 1 and its endpoint 2.
+fn trusted(image: &mut [u8], fabric: u8) {
     told(timesync_set_trusted_time_source(image, fabric, 1, 1, 2));
-    FABRIC_SIZE
 }
 
 // The device from here on without its list store: 0 is written to the image's mark of one.
-fn without_store(image: &mut [u8]) -> usize {
+fn without_store(image: &mut [u8]) {
     put_u8(image, LIST_STORE, 0);
-    LETTER_SIZE
 }
 
-// How many entries are listed.
-fn counts(image: &[u8]) -> usize {
-    listing::counts(image);
-    LETTER_SIZE
-}
-
-// The listed zone at an index.
-fn zone(image: &[u8], s: &[u8]) -> usize {
-    listing::zone(image, u64_at(s, ARGUMENT) as usize);
-    NUMBER_SIZE
-}
-
-// The listed window at an index.
-fn window(image: &[u8], s: &[u8]) -> usize {
-    listing::window(image, u64_at(s, ARGUMENT) as usize);
-    NUMBER_SIZE
-}
-
-// The step at the front, by its letter; answers how many bytes it took, and 0 where it cannot be read.
-fn step(image: &mut [u8], s: &[u8]) -> usize {
-    match u8_at(s, 0) {
-        b'U' => utc_time(image, s),
-        b'L' => local(image, s),
-        b'T' => trusted(image, u8_at(s, ARGUMENT)),
-        b'N' => without_store(image),
-        b'C' => counts(image),
-        b'A' => zone(image, s),
-        b'B' => window(image, s),
-        letter => list(image, s, letter),
-    }
+// The step at the front, by its letter; answers what stands after it, and nothing where it cannot be read.
+fn step<'a>(image: &mut [u8], s: &'a [u8]) -> Option<&'a [u8]>
+    ensures { IfSome result (λ rest. length rest.now < length s.now) }
+{
+    let letter = *s.first()?;
+    let size = match letter {
+        b'L' => {
+            local(image, u64_at(s, ARGUMENT));
+            NUMBER_SIZE
+        }
+        b'T' => {
+            trusted(image, u8_at(s, ARGUMENT));
+            FABRIC_SIZE
+        }
+        b'N' => {
+            without_store(image);
+            LETTER_SIZE
+        }
+        b'C' => {
+            listing::counts(image);
+            LETTER_SIZE
+        }
+        b'A' => {
+            listing::zone(image, u64_at(s, ARGUMENT) as usize);
+            NUMBER_SIZE
+        }
+        b'B' => {
+            listing::window(image, u64_at(s, ARGUMENT) as usize);
+            NUMBER_SIZE
+        }
+        b'U' => return utc_time(image, s),
+        _ => return list(image, s, letter),
+    };
+    s.get(size..)
 }
 
 // Runs the steps of a script on an image, and writes what each answers; it ends where no step can be read.
 fn steps(image: &mut [u8], s: &[u8]) {
-    let mut at: usize = 0;
-    while at < s.len() {
-        let used = step(image, &s[at..]);
-        if used == 0 {
-            return;
-        }
-        if s.len() - at < used {
-            return;
-        }
-        at += used;
+    let mut rest = s;
+    while let Some(after) = step(image, rest) {
+        rest = after;
     }
 }
 

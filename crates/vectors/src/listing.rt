@@ -1,4 +1,5 @@
-// What a device answers about its lists: how many entries are listed, and one of them.
+// What a device answers about its lists: how many entries are listed, and one of them. Each output of an entry point is a variable of its
+// own, as C wants it.
 use crate::device::told;
 use crate::{NAME_MAX, text};
 use controller::attributes::{timesync_dst_offset_count, timesync_time_zone_count};
@@ -10,8 +11,7 @@ fn count(returned: u64, n: u64) {
         told(returned);
         return;
     }
-    text::words(b" ");
-    text::decimal(n);
+    text::numbered(b" ", n);
 }
 
 // How many zones are listed, and how many windows.
@@ -26,17 +26,13 @@ pub(crate) fn counts(image: &[u8]) {
 // Writes an offset and a start.
 fn head(offset: i32, start: u64) {
     text::words(b"(");
-    text::signed(offset);
-    text::words(b" from ");
-    text::decimal(start);
+    text::offset_from(offset, start);
 }
 
 // Writes the first n bytes of a name.
 fn named(name: &[u8], n: usize) {
     text::words(b" named ");
-    if n <= name.len() {
-        text::words(&name[..n]);
-    }
+    text::words(name.get(..n).unwrap_or(&[]));
 }
 
 // The listed zone at an index, with its name as it is.
@@ -71,8 +67,7 @@ pub(crate) fn window(image: &[u8], index: usize) {
     told(timesync_dst_offset(image, index, &mut offset, &mut start, &mut closed, &mut end));
     head(offset, start);
     if closed != 0 {
-        text::words(b" to ");
-        text::decimal(end);
+        text::numbered(b" to ", end);
     }
     text::words(b")");
 }

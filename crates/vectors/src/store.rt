@@ -1,6 +1,5 @@
 // What is answered about a store: a whole history is run on it, and then it is walked.
 use crate::{NAME_MAX, RECORD_MAX, text};
-use word::or_zero::u64_at;
 
 // The most moments of a walk, and how many bytes a moment has.
 const MOST_MOMENTS: usize = 41;
@@ -10,22 +9,18 @@ const MOMENT_SIZE: usize = 8;
 // Room for every moment of a walk.
 const MOMENTS_MAX: usize = MOST_MOMENTS * MOMENT_SIZE;
 
-// Writes the number of steps and the moments of a walk.
+// Writes the number of steps and the moments of a walk: the starting one, and one for each step.
 fn walked(moments: &[u8], steps: u64) {
     text::decimal(steps);
     text::words(b" steps:");
-    let mut i: usize = 0;
-    while i < MOST_MOMENTS {
-        if steps < i as u64 {
-            return;
-        }
-        text::words(b" ");
-        text::decimal(u64_at(moments, MOMENT_SIZE * i));
-        i += 1;
+    let (moments, _) = moments.as_chunks::<MOMENT_SIZE>();
+    for moment in moments.iter().take((steps as usize).saturating_add(1)) {
+        text::numbered(b" ", u64::from_le_bytes(*moment));
     }
 }
 
 // Runs the history of a row at its limits and walks from its starting moment; what else is looked up is not shown.
+// Each output is a variable of its own, as the call for C wants it.
 fn run(row: &[u8], history: &[u8], moments: &mut [u8], steps: &mut u64) -> u64 {
     let start = text::number(row, 3);
     let mut name = [0u8; NAME_MAX];
@@ -69,8 +64,7 @@ pub(crate) fn replayed(row: &[u8], history: &[u8]) {
     let mut steps: u64 = 0;
     let answer = run(row, history, &mut moments, &mut steps);
     if answer != 0 {
-        text::words(b"refused ");
-        text::decimal(answer);
+        text::numbered(b"refused ", answer);
         return;
     }
     walked(&moments, steps);

@@ -1,6 +1,5 @@
-// Text in and out: lines, hexadecimal digits, signed numbers.
-ghost use Rattle.std.specs.Prelude.{◌≤◌, length};
-ghost use Rattle.io.specs.Counts.{IsPrefixLen};
+// Text in and out: lines, words, hexadecimal digits, signed numbers.
+ghost use Rattle.std.specs.Prelude.{◌≡◌, ◌/◌, ◌≤◌, min, length};
 
 // Standard output.
 const STDOUT_FILENO: i32 = 1;
@@ -15,145 +14,73 @@ pub(crate) fn decimal(n: u64) {
     io::print_decimal(STDOUT_FILENO, n);
 }
 
-// Where the line that starts at `at` ends.
-pub(crate) fn line_end(s: &[u8], at: usize) -> usize
-    requires { at ≤ length s.now }
-    ensures { (at ≤ result) × (result ≤ length s.now) }
-{
-    let mut i = at;
-    while i < s.len() {
-        if s[i] == b'\n' {
-            return i;
-        }
-        i += 1;
+// Writes some text and a number.
+pub(crate) fn numbered(name: &[u8], n: u64) {
+    words(name);
+    decimal(n);
+}
+
+// Writes a number with its sign.
+fn signed(z: i32) {
+    if z < 0 {
+        words(b"-");
     }
-    i
+    decimal(z.unsigned_abs() as u64);
+}
+
+// Writes an offset and the moment that it starts from.
+pub(crate) fn offset_from(offset: i32, start: u64) {
+    signed(offset);
+    numbered(b" from ", start);
 }
 
 // How many bytes at the front are whole lines, with their line ends.
 pub(crate) fn whole_lines(s: &[u8]) -> usize
     ensures { result ≤ length s.now }
 {
-    let mut i = s.len();
-    while 0 < i {
-        if s[i - 1] == b'\n' {
-            return i;
-        }
-        i -= 1;
-    }
-    0
-}
-
-// Moves the bytes from `at` on to the front.
-pub(crate) fn to_front(s: &mut [u8], at: usize) {
-    if s.len() < at {
-        return;
-    }
-    let n = s.len() - at;
-    let mut i: usize = 0;
-    while i < n {
-        s[i] = s[at + i];
-        i += 1;
+    match s.iter().rposition(|b| *b == b'\n') {
+        None => 0,
+        Some(last) => last + 1,
     }
 }
 
-// The value of a hexadecimal digit, and 0 for any other byte.
+// The value of a hexadecimal digit, and 0 for any other byte. Not by `to_digit`, which takes capital letters too.
 fn digit(b: u8) -> u8
     ensures { result ≤ 15 }
 {
-    if b < b'0' {
-        return 0;
+    match b {
+        b'0'..=b'9' => b - b'0',
+        b'a'..=b'f' => b - b'a' + 10,
+        _ => 0,
     }
-    if b <= b'9' {
-        return b - b'0';
-    }
-    if b < b'a' {
-        return 0;
-    }
-    if b <= b'f' {
-        return b - b'a' + 10;
-    }
-    0
 }
 
-// The bytes that pairs of digits stand for, and how many were stored.
-pub(crate) fn hex(s: &[u8], out: &mut [u8]) -> usize
-    ensures { IsPrefixLen result out.new }
+// The bytes that pairs of digits stand for, as many as there is room for; they are stored at the front of `out`.
+pub(crate) fn hex<'a>(s: &[u8], out: &'a mut [u8]) -> &'a [u8]
+    ensures { length result.now ≡ min (length s.now / 2) (length out.old) }
 {
-    let mut i: usize = 0;
-    let mut n: usize = 0;
-    while n < out.len() {
-        if s.len() - i < 2 {
-            return n;
-        }
-        let high = digit(s[i]);
-        let low = digit(s[i + 1]);
-        out[n] = high * 16 + low;
-        i += 2;
-        n += 1;
+    let (pairs, _) = s.as_chunks::<2>();
+    let n = pairs.len().min(out.len());
+    for (byte, [high, low]) in out.iter_mut().zip(pairs) {
+        *byte = digit(*high) * 16 + digit(*low);
     }
-    n
+    &out[..n]
 }
 
-// The word that a byte belongs to, after the word before it.
-fn word_after(word: usize, b: u8) -> usize {
-    if b != b' ' {
-        return word;
-    }
-    if word < 9 {
-        return word + 1;
-    }
-    word
+// A row from word k on, and nothing where the row has no such word; the first word is 0.
+pub(crate) fn from_word(row: &[u8], k: usize) -> &[u8] {
+    row.splitn(k.saturating_add(1), |b| *b == b' ')
+        .nth(k)
+        .unwrap_or(&[])
 }
 
 // A number with one more digit, held at the largest.
 fn with_digit(v: u64, b: u8) -> u64 {
-    let d = digit(b) as u64;
-    if v <= (0xffff_ffff_ffff_ffff - d) / 10 {
-        return v * 10 + d;
-    }
-    0xffff_ffff_ffff_ffff
+    v.saturating_mul(10).saturating_add(digit(b) as u64)
 }
 
-// Where word k of a row starts; its end where the row has no such word.
-pub(crate) fn word_start(s: &[u8], k: usize) -> usize
-    ensures { result ≤ length s.now }
-{
-    let mut word: usize = 0;
-    let mut i: usize = 0;
-    while i < s.len() {
-        if word == k {
-            return i;
-        }
-        word = word_after(word, s[i]);
-        i += 1;
-    }
-    i
-}
-
-// Word k of a row as a decimal number; the first word is 0.
-pub(crate) fn number(s: &[u8], k: usize) -> u64 {
-    let mut v: u64 = 0;
-    let mut i = word_start(s, k);
-    while i < s.len() {
-        if s[i] == b' ' {
-            return v;
-        }
-        v = with_digit(v, s[i]);
-        i += 1;
-    }
-    v
-}
-
-// Writes a number with its sign, by way of its four bytes.
-pub(crate) fn signed(z: i32) {
-    let mut b = [0u8; 4];
-    word::put_i32(&mut b, 0, z);
-    let n = word::or_zero::u32_at(&b, 0);
-    if n < 0x8000_0000 {
-        decimal(n as u64);
-        return;
-    }
-    words(b"-");
-    decimal((0xffff_ffff - n) as u64 + 1);
+// Word k of a row as a decimal number.
+pub(crate) fn number(row: &[u8], k: usize) -> u64 {
+    let word = row.split(|b| *b == b' ').nth(k).unwrap_or(&[]);
+    word.iter().fold(0, |v, b| with_digit(v, *b))
 }

@@ -1,17 +1,14 @@
 -- What an answer of `u64_at` or `i32_at` says of the bytes.
+use Rattle.std.specs.Prelude.{Option, None, Some}
 use mathlib.Core.Bool.{Bool, true, false, cond}
 use mathlib.Core.List.{List}
-use mathlib.Core.Option.{Option, none, some}
 use mathlib.Core.Path.{◌≡◌, refl, ap, ◌∙◌}
 use Prim.Native.Nat.{ℕ, ◌+◌, ◌≤◌, ◌<◌}
 use native.Mathlib.Omega.{arith}
 use borrow.Author.Tests.{leb-true, leb-false}
 use lib.IntN.{ℤ}
 use lib.ListN.{length, take, drop}
-use Rattle.model.specs.declared.MaybeU64.{MaybeU64}
-use Rattle.model.specs.declared.MaybeI32.{MaybeI32}
 use Rattle.model.specs.Bytes.{number, signed}
-use Rattle.model.specs.Maybe.{maybe_u64, maybe_i32}
 use Rattle.word.specs.Place.{fits_at, number_at, signed_of, signed_at}
 
 -- the bytes are there, and spell `v`
@@ -19,60 +16,60 @@ pub record Present (w : ℕ) (s : List ℕ) (at v : ℕ) : Type 0 where
   pub there : at + w ≤ length s
   pub is : v ≡ number (take w (drop at s))
 
-chosen : (b : Bool) (n v : ℕ) → cond b (some n) none ≡ some v → (b ≡ true) × (v ≡ n)
+chosen : (b : Bool) (n v : ℕ) → cond b (Some n) None ≡ Some v → (b ≡ true) × (v ≡ n)
 chosen true n v h = (refl, cc)
-chosen false n v h = let z : ◌≡◌ {A = Option ℕ} none (some v) = h in (cc, cc)
+chosen false n v h = let z : ◌≡◌ {A = Option ℕ} None (Some v) = h in (cc, cc)
 
-not_chosen : (b : Bool) (n : ℕ) → cond b (some n) none ≡ none → b ≡ false
-not_chosen true n h = let z : ◌≡◌ {A = Option ℕ} (some n) none = h in cc
+not_chosen : (b : Bool) (n : ℕ) → cond b (Some n) None ≡ None → b ≡ false
+not_chosen true n h = let z : ◌≡◌ {A = Option ℕ} (Some n) None = h in cc
 not_chosen false n h = refl
 
 module _ (w : ℕ) (s : List ℕ) (at : ℕ) where
-  number_present : (v : ℕ) → number_at w s at ≡ some v → Present w s at v
+  number_present : (v : ℕ) → number_at w s at ≡ Some v → Present w s at v
   unfolding number_at
   number_present v h =
       let c = chosen (fits_at s at w) (number (take w (drop at s))) v h in
       record { there = leb-true (at + w) (length s) c.0; is = c.1 }
 
-  number_missing : number_at w s at ≡ none → length s < at + w
+  number_missing : number_at w s at ≡ None → length s < at + w
   unfolding number_at
   number_missing h = leb-false (at + w) (length s) (not_chosen (fits_at s at w) (number (take w (drop at s))) h)
 
-u64_some : (o : Option ℕ) (v : ℕ) → MaybeU64.Is v ≡ maybe_u64 o → o ≡ some v
-u64_some none v h = cc
-u64_some (some n) v h = cc
+u64_some : (o : Option ℕ) (v : ℕ) → Some v ≡ o → o ≡ Some v
+u64_some None v h = cc
+u64_some (Some n) v h = cc
 
-u64_none : (o : Option ℕ) → MaybeU64.Nothing ≡ maybe_u64 o → o ≡ none
-u64_none none h = refl
-u64_none (some n) h = cc
+u64_none : (o : Option ℕ) → None ≡ o → o ≡ None
+u64_none None h = refl
+u64_none (Some n) h = cc
 
 module _ (s : List ℕ) (at : ℕ) where
-  pub u64_present : (v : ℕ) → MaybeU64.Is v ≡ maybe_u64 (number_at 8 s at) → Present 8 s at v
+  pub u64_present : (v : ℕ) → Some v ≡ number_at 8 s at → Present 8 s at v
   u64_present v h = number_present 8 s at v (u64_some (number_at 8 s at) v h)
 
-  pub u64_missing : MaybeU64.Nothing ≡ maybe_u64 (number_at 8 s at) → length s < at + 8
+  pub u64_missing : None ≡ number_at 8 s at → length s < at + 8
   u64_missing h = number_missing 8 s at (u64_none (number_at 8 s at) h)
 
   pub record Offset (z : ℤ) : Type 0 where
     pub there : at + 4 ≤ length s
     pub is : z ≡ signed (number (take 4 (drop at s)))
 
-  offset_some : (o : Option ℕ) (z : ℤ) → number_at 4 s at ≡ o → MaybeI32.Is z ≡ maybe_i32 (signed_of o) → Offset z
-  offset_some none z e h = let q : ◌≡◌ {A = MaybeI32} (MaybeI32.Is z) MaybeI32.Nothing = h in record { there = absurd (no q); is = absurd (no q) }
+  offset_some : (o : Option ℕ) (z : ℤ) → number_at 4 s at ≡ o → Some z ≡ signed_of o → Offset z
+  offset_some None z e h = let q : ◌≡◌ {A = (Option ℤ)} (Some z) None = h in record { there = absurd (no q); is = absurd (no q) }
     where
-      no : ◌≡◌ {A = MaybeI32} (MaybeI32.Is z) MaybeI32.Nothing → ⊥
+      no : ◌≡◌ {A = (Option ℤ)} (Some z) None → ⊥
       no q = let y : ◌≡◌ {A = ℕ} 0 1 = cc in absurd (omega arith)
-  offset_some (some n) z e h =
+  offset_some (Some n) z e h =
       let p = number_present 4 s at n e in
       let q : z ≡ signed n = cc in
       record { there = p.there; is = q ∙ ap signed p.is }
 
-  offset_none : (o : Option ℕ) → number_at 4 s at ≡ o → MaybeI32.Nothing ≡ maybe_i32 (signed_of o) → length s < at + 4
-  offset_none none e h = number_missing 4 s at e
-  offset_none (some n) e h = let q : ◌≡◌ {A = MaybeI32} MaybeI32.Nothing (MaybeI32.Is (signed n)) = h in let y : ◌≡◌ {A = ℕ} 0 1 = cc in absurd (omega arith)
+  offset_none : (o : Option ℕ) → number_at 4 s at ≡ o → None ≡ signed_of o → length s < at + 4
+  offset_none None e h = number_missing 4 s at e
+  offset_none (Some n) e h = let q : ◌≡◌ {A = (Option ℤ)} None (Some (signed n)) = h in let y : ◌≡◌ {A = ℕ} 0 1 = cc in absurd (omega arith)
 
-  pub i32_present : (z : ℤ) → MaybeI32.Is z ≡ maybe_i32 (signed_at s at) → Offset z
+  pub i32_present : (z : ℤ) → Some z ≡ signed_at s at → Offset z
   i32_present z h = offset_some (number_at 4 s at) z refl h
 
-  pub i32_missing : MaybeI32.Nothing ≡ maybe_i32 (signed_at s at) → length s < at + 4
+  pub i32_missing : None ≡ signed_at s at → length s < at + 4
   i32_missing h = offset_none (number_at 4 s at) refl h

@@ -1,7 +1,7 @@
 -- What stands at a place where the bytes fit, and where they do not.
+use Rattle.std.specs.Prelude.{None, Some}
 use mathlib.Core.Bool.{Bool, true, false, cond}
 use mathlib.Core.List.{List}
-use mathlib.Core.Option.{none, some}
 use mathlib.Core.Path.{◌≡◌, refl, sym, ◌∙◌}
 use Prim.Native.Nat.{ℕ, ◌+◌, ◌-◌, ◌≤◌, ◌<◌}
 use native.Mathlib.Omega.{arith}
@@ -9,20 +9,19 @@ use borrow.Author.Tests.{le-leb, lt-leb, leb-true, leb-false}
 use lib.Dec.{leb}
 use lib.ListN.{length, take, drop, length-drop}
 use lib.Seq.{drop-drop, length-take-le}
-use Rattle.model.specs.Bytes.{take_bytes, number, bytes, well_formed}
-use Rattle.model.proofs.Words.{length_bytes}
-use Rattle.word.specs.Place.{fits_at, number_at, word_at, text_at, put, placed, copied}
+use Rattle.model.specs.Bytes.{take_bytes, number, well_formed}
+use Rattle.word.specs.Place.{fits_at, number_at, text_at, put, placed, copied}
 use Rattle.model.proofs.Facts.{by_test}
 
 module _ (w : ℕ) (s : List ℕ) (at : ℕ) where
   -- where they fit, the bytes at a place are what a reader takes off the bytes from there on
-  pub front_fits : at + w ≤ length s → take_bytes w (drop at s) ≡ some (take w (drop at s), drop (at + w) s)
+  pub front_fits : at + w ≤ length s → take_bytes w (drop at s) ≡ Some (take w (drop at s), drop (at + w) s)
   unfolding take_bytes
   front_fits h =
       let l : w ≤ length (drop at s) = omega (arith, length-drop at s) in
       rw (le-leb w (length (drop at s)) l, drop-drop w at s)
 
-  pub front_short : 0 < w → length s < at + w → take_bytes w (drop at s) ≡ none
+  pub front_short : 0 < w → length s < at + w → take_bytes w (drop at s) ≡ None
   unfolding take_bytes
   front_short p h =
       let l : length (drop at s) < w = omega (arith, length-drop at s) in
@@ -41,21 +40,16 @@ module _ (w : ℕ) (s : List ℕ) (at : ℕ) {b : Bool} (f : b ≡ fits_at s at 
   pub fitting : b ≡ true → at + w ≤ length s
   fitting t = leb-true (at + w) (length s) (sym f ∙ t)
 
-  pub number_is : b ≡ true → number_at w s at ≡ some (number (take w (drop at s)))
+  pub unfitting : b ≡ false → length s < at + w
+  unfitting t = leb-false (at + w) (length s) (sym f ∙ t)
+
+  pub number_is : b ≡ true → number_at w s at ≡ Some (number (take w (drop at s)))
   unfolding number_at
   number_is t = rw (sym f ∙ t)
 
-  pub number_none : b ≡ false → number_at w s at ≡ none
+  pub number_none : b ≡ false → number_at w s at ≡ None
   unfolding number_at
   number_none t = rw (sym f ∙ t)
-
-  pub word_is : b ≡ true → word_at w s at ≡ number (take w (drop at s))
-  unfolding word_at
-  word_is t = rw (sym f ∙ t)
-
-  pub word_none : b ≡ false → word_at w s at ≡ 0
-  unfolding word_at
-  word_none t = rw (sym f ∙ t)
 
   pub text_is : b ≡ true → text_at s at w ≡ well_formed (take w (drop at s))
   unfolding text_at
@@ -64,15 +58,6 @@ module _ (w : ℕ) (s : List ℕ) (at : ℕ) {b : Bool} (f : b ≡ fits_at s at 
   pub text_none : b ≡ false → text_at s at w ≡ false
   unfolding text_at
   text_none t = rw (sym f ∙ t)
-
-  -- w bytes of a number
-  pub placed_is : (v : ℕ) → b ≡ true → placed s at (bytes w v) ≡ put s at (bytes w v)
-  unfolding placed
-  placed_is v t = rw (length_bytes w v, sym f ∙ t)
-
-  pub placed_none : (v : ℕ) → b ≡ false → placed s at (bytes w v) ≡ s
-  unfolding placed
-  placed_none v t = rw (length_bytes w v, sym f ∙ t)
 
 -- a well-formed part is there
 pub text_there : (n : ℕ) (s : List ℕ) (at : ℕ) → text_at s at n ≡ true → (fits_at s at n ≡ true) × (well_formed (take n (drop at s)) ≡ true)

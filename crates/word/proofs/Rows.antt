@@ -1,8 +1,8 @@
 -- Where a byte stands in the table, and a turn of the loop.
+use Rattle.std.specs.Prelude.{Option, Some}
 use Prim.Native.Nat.{ℕ, zero, suc, ◌+◌, ◌-◌, ◌≤◌, ◌<◌}
 use mathlib.Core.Path.{◌≡◌, refl, sym, ap, ◌∙◌}
 use mathlib.Core.Bool.{Bool, true, false, ◌&&◌}
-use mathlib.Core.Option.{Option, some}
 use mathlib.Core.List.{List, [], ◌∷◌}
 use native.Mathlib.Numerals.{add-one}
 use native.Mathlib.Omega.{arith}
@@ -10,7 +10,7 @@ use borrow.Author.Tests.{le-leb, lt-leb}
 use lib.Dec.{leb, eqb, eqb-suc-zero}
 use lib.ListN.{length, drop, get_or, replicate}
 use lib.Seq.{drop-cons}
-use Rattle.model.specs.Bytes.{Range, ◌··◌, within, row, table, follow, goes_on}
+use Rattle.model.specs.Bytes.{Range, ◌··◌, within, row, table, follow, goes_on, well_formed}
 use Rattle.word.specs.Lead.{due}
 
 and_false : (t : Bool) → t && false ≡ false
@@ -28,7 +28,7 @@ module _ (a lo hi : ℕ) where
   above l = ap (λ (t : Bool). leb lo a && t) (lt-leb a hi l) ∙ and_false (leb lo a)
 
 module _ (a lo hi : ℕ) (rest : List Range) (other : Option (List Range)) where
-  pub here : lo ≤ a → a ≤ hi → some rest ≡ row a (lo ·· hi) rest other
+  pub here : lo ≤ a → a ≤ hi → Some rest ≡ row a (lo ·· hi) rest other
   unfolding row
   here l h = rw (inside a lo hi l h)
 
@@ -65,3 +65,11 @@ next_byte b s (suc n) lo hi h =
 
 pub head_is : (s : List ℕ) (i : ℕ) (rs : List Range) → i < length s → goes_on (drop i s) rs ≡ goes_on (get_or s i 0 ∷ drop (i + 1) s) rs
 head_is s i rs h = rw (add-one, drop-cons s i 0)
+
+-- bytes below 0x80 are characters by themselves
+pub ascii_text : (s : List ℕ) → ((i : ℕ) → get_or s i 0 < 0x80) → well_formed s ≡ true
+unfolding goes_on
+ascii_text [] p = refl
+ascii_text (x ∷ s) p =
+    ap (λ (o : Option (List Range)). follow o (goes_on s)) (sym (here x 0x00 0x7F [] _ (omega arith) (omega (arith, p 0))))
+    ∙ ascii_text s (λ i. p (suc i))

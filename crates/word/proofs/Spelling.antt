@@ -1,16 +1,12 @@
 -- The bytes at a place spell the number there, one after another.
 use mathlib.Core.List.{List, [], ◌∷◌}
-use mathlib.Core.Path.{◌≡◌, refl, sym, ap, ◌∙◌}
-use Prim.Native.Nat.{ℕ, zero, suc, ◌+◌, ◌≤◌, ◌<◌}
+use mathlib.Core.Path.{◌≡◌, refl, sym, ap}
+use Prim.Native.Nat.{ℕ, zero, suc, ◌+◌, ◌≤◌}
 use native.Mathlib.Omega.{arith}
-use borrow.Author.Tests.{ltb-true, ltb-false, le-leb}
-use lib.Dec.{ltb}
-use lib.ListN.{length, take, drop, get_or, length-take, length-drop, get_or-eq_default}
-use lib.Seq.{drop-cons, get_or-take, get_or-drop, length-take-le}
-use Rattle.model.specs.Bytes.{number, bytes}
-use Rattle.model.specs.RoundTrip.{AreBytes}
-use Rattle.model.proofs.Facts.{by_test}
-use Rattle.model.proofs.Words.{bytes_number}
+use borrow.Author.Tests.{le-leb}
+use lib.ListN.{length, take, drop}
+use lib.Seq.{drop-cons}
+use Rattle.model.specs.Bytes.{number}
 use Rattle.word.specs.Place.{byte_at, word_at}
 
 -- w bytes of s, from the one i places behind `at` on
@@ -31,9 +27,6 @@ from_first s at w h =
     rw (drop-cons s at 0 (omega arith), e) (ap (λ (r : List ℕ). byte_at s at ∷ r) (spelled s at 1 w (omega arith)))
 
 module _ (s : List ℕ) (at : ℕ) where
-  pub two : at + 2 ≤ length s → number (byte_at s at ∷ byte_at s (at + 1) ∷ []) ≡ number (take 2 (drop at s))
-  two h = sym (ap number (from_first s at 1 h))
-
   pub four : at + 4 ≤ length s → number (byte_at s at ∷ byte_at s (at + 1) ∷ byte_at s (at + 2) ∷ byte_at s (at + 3) ∷ []) ≡ number (take 4 (drop at s))
   four h = sym (ap number (from_first s at 3 h))
 
@@ -46,21 +39,3 @@ module _ (s : List ℕ) (at : ℕ) where
   pub word_there : (w : ℕ) → at + w ≤ length s → word_at w s at ≡ number (take w (drop at s))
   unfolding word_at
   word_there w h = rw (le-leb (at + w) (length s) h)
-
--- ## What a part of some bytes spells is written as that part
-
-pub part_below : (s : List ℕ) (at w : ℕ) → ((i : ℕ) → get_or s i 0 < 256) → (j : ℕ) → get_or (take w (drop at s)) j 0 < 256
-part_below s at w b j =
-    by_test (ltb j w)
-    (λ t. omega (arith, b (at + j), get_or-take w (drop at s) j 0 (ltb-true j w t), get_or-drop at s j 0))
-    (λ t. omega (arith, get_or-eq_default (take w (drop at s)) 0 {n = j} (omega (arith, ltb-false j w t, length-take w (drop at s)))))
-
-are_bytes : (xs : List ℕ) → ((j : ℕ) → get_or xs j 0 < 256) → AreBytes xs
-are_bytes [] b = tt
-are_bytes (x ∷ xs) b = (b 0, are_bytes xs (λ j. b (suc j)))
-
-pub written_back : (s : List ℕ) (at w : ℕ) → at + w ≤ length s → ((i : ℕ) → get_or s i 0 < 256) → bytes w (number (take w (drop at s))) ≡ take w (drop at s)
-written_back s at w h b =
-    let xs = take w (drop at s) in
-    let n : length xs ≡ w = length-take-le w (drop at s) (omega (arith, length-drop at s)) in
-    ap (λ (k : ℕ). bytes k (number xs)) (sym n) ∙ bytes_number xs (are_bytes xs (part_below s at w b))

@@ -1,5 +1,4 @@
 -- What the contracts of `word` cite.
 pub mod Place
 pub mod Lead
-pub mod Plain
 pub mod Examples

@@ -1,30 +1,26 @@
 -- What stands at a place of some bytes, and what they are after a number is written there.
-use Rattle.std.specs.Prelude.{Bool, false, ◌&&◌, cond, List, ◌++◌, ℕ, ◌+◌, ◌*◌, leb, ℤ, length, take, drop, get_or}
-use Rattle.std.proofs.Math.Option.{Option, none, some}
+use Rattle.std.specs.Prelude.{Bool, false, ◌&&◌, cond, List, ◌++◌, ℕ, ◌+◌, ◌*◌, leb, ℤ, length, take, drop, get_or, Option, None, Some}
 use Rattle.model.specs.Bytes.{number, bytes, all_bytes, signed, well_formed}
-use Rattle.word.specs.declared.MaybeU32.{MaybeU32}
-use Rattle.word.specs.declared.MaybeU32.TheVariants as U
 
 -- n bytes stand at `at`
 abbrev pub fits_at : List ℕ → ℕ → ℕ → Bool
 fits_at s at n = leb (at + n) (length s)
 
+-- the n bytes at `at`; none where one is missing
+unfoldable pub part_at : ℕ → List ℕ → ℕ → Option (List ℕ)
+part_at n s at = cond (fits_at s at n) (Some (take n (drop at s))) None
+
 -- the number of w bytes at `at`; none where a byte is missing
 unfoldable pub number_at : ℕ → List ℕ → ℕ → Option ℕ
-number_at w s at = cond (fits_at s at w) (some (number (take w (drop at s)))) none
+number_at w s at = cond (fits_at s at w) (Some (number (take w (drop at s)))) None
 
 abbrev pub signed_of : Option ℕ → Option ℤ
-signed_of none = none
-signed_of (some n) = some (signed n)
+signed_of None = None
+signed_of (Some n) = Some (signed n)
 
 -- the offset at `at`
 abbrev pub signed_at : List ℕ → ℕ → Option ℤ
 signed_at s at = signed_of (number_at 4 s at)
-
--- what the enum stands for
-abbrev pub maybe_u32 : Option ℕ → MaybeU32
-maybe_u32 none = U.Nothing
-maybe_u32 (some n) = U.Is n
 
 -- s with the bytes bs from `at` on
 abbrev pub put : List ℕ → ℕ → List ℕ → List ℕ

@@ -3,71 +3,53 @@ ghost use Rattle.std.specs.Prelude.{[], ◌∷◌, ◌≡◌};
 ghost use Rattle.model.specs.Bytes.{bytes, signed};
 ghost use Rattle.word.specs.Place.{fits_at, byte_at, word_at, placed};
 
+use crate::put_bytes;
+
 // The byte at `at`, or 0.
 pub fn u8_at(s: &[u8], at: usize) -> u8
     ensures { result ≡ byte_at s.now at }
 {
-    if at < s.len() {
-        return s[at];
-    }
-    0
+    s.get(at).copied().unwrap_or(0)
 }
 
 // The 16-bit number at `at`, or 0.
 pub fn u16_at(s: &[u8], at: usize) -> u16
     ensures { result ≡ word_at 2 s.now at }
 {
-    if crate::in_bounds(s, at, 2) {
-        return crate::held::u16_at(s, at);
-    }
-    0
+    crate::u16_at(s, at).unwrap_or(0)
 }
 
 // The 32-bit number at `at`, or 0.
 pub fn u32_at(s: &[u8], at: usize) -> u32
     ensures { result ≡ word_at 4 s.now at }
 {
-    if crate::in_bounds(s, at, 4) {
-        return crate::held::u32_at(s, at);
-    }
-    0
+    crate::u32_at(s, at).unwrap_or(0)
 }
 
 // The 64-bit number at `at`, or 0.
 pub fn u64_at(s: &[u8], at: usize) -> u64
     ensures { result ≡ word_at 8 s.now at }
 {
-    if crate::in_bounds(s, at, 8) {
-        return crate::held::u64_at(s, at);
-    }
-    0
+    crate::u64_at(s, at).unwrap_or(0)
 }
 
 // The offset at `at`, or 0.
 pub fn i32_at(s: &[u8], at: usize) -> i32
     ensures { result ≡ signed (word_at 4 s.now at) }
 {
-    crate::from_bits(u32_at(s, at))
+    u32_at(s, at).cast_signed()
 }
 
 // Writes a byte at `at`, where it fits; answers whether it does.
 pub fn put_u8(out: &mut [u8], at: usize, v: u8) -> bool
     ensures { (result ≡ fits_at out.old at 1) × (out.new ≡ placed out.old at (v ∷ [])) }
 {
-    if at < out.len() {
-        out[at] = v;
-        return true;
-    }
-    false
+    put_bytes(out, at, &[v])
 }
 
 // Writes a 16-bit number at `at`, where it fits; answers whether it does.
 pub fn put_u16(out: &mut [u8], at: usize, v: u16) -> bool
     ensures { (result ≡ fits_at out.old at 2) × (out.new ≡ placed out.old at (bytes 2 v)) }
 {
-    if crate::in_bounds(out, at, 2) {
-        crate::set(out, at, 2, v as u64);
-        return true;
-    }
-    false
+    put_bytes(out, at, &v.to_le_bytes())
 }

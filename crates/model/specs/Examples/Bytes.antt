@@ -1,6 +1,5 @@
 -- Bytes: numbers, UTF-8 row by row, sections and records, good and damaged.
-use Rattle.std.specs.Prelude.{true, false, [], ◌∷◌, ◌++◌, ◌≡◌, refl, pos, neg_ℤ, length, replicate}
-use Rattle.std.proofs.Math.Option.{none, some}
+use Rattle.std.specs.Prelude.{true, false, [], ◌∷◌, ◌++◌, ◌≡◌, refl, pos, neg_ℤ, length, replicate, None, Some}
 use Rattle.model.specs.Basics.{top}
 use Rattle.model.specs.Lists.{Lists, empty}
 use Rattle.model.specs.Bytes.{bytes, number, bits_of, signed, row, goes_on, well_formed, take_bytes, named, read_name, read_until, read_entry, read_all, all_bytes, zones_bytes, windows_bytes, record_bytes, record_most, read_zones, read_windows, read_record}
@@ -75,51 +74,51 @@ west_written : zones_bytes (zone (neg_ℤ (pos 43200)) 0 ∷ []) ≡ 1 ∷ 0x40 
 unfolding zones_bytes all_bytes bytes bits_of
 west_written = refl
 
-window_written : windows_bytes (window (neg_ℤ (pos 1)) 258 (some 3) ∷ []) ≡ 1 ∷ 255 ∷ 255 ∷ 255 ∷ 255 ∷ 2 ∷ 1 ∷ replicate 6 0 ++ (1 ∷ 3 ∷ replicate 7 0)
+window_written : windows_bytes (window (neg_ℤ (pos 1)) 258 (Some 3) ∷ []) ≡ 1 ∷ 255 ∷ 255 ∷ 255 ∷ 255 ∷ 2 ∷ 1 ∷ replicate 6 0 ++ (1 ∷ 3 ∷ replicate 7 0)
 unfolding windows_bytes all_bytes bytes bits_of
 window_written = refl
 
 -- no entry; no name; a name of no bytes, which is not no name; a name; the top; a count with nothing behind it; no bytes at all
 zone_sections : Gives read_zones
-    ((0 ∷ []) gives some []
-    ∷ (1 ∷ replicate 13 0) gives some (zone (pos 0) 0 ∷ [])
-    ∷ (1 ∷ replicate 12 0 ++ (1 ∷ 0 ∷ [])) gives some (record { offset = pos 0; start = 0; name = some [] } ∷ [])
-    ∷ (1 ∷ replicate 12 0 ++ (1 ∷ 2 ∷ 0xC3 ∷ 0xBC ∷ [])) gives some (record { offset = pos 0; start = 0; name = some (0xC3 ∷ 0xBC ∷ []) } ∷ [])
-    ∷ (1 ∷ replicate 4 0 ++ (replicate 8 255 ++ (0 ∷ []))) gives some (zone (pos 0) top ∷ [])
-    ∷ (1 ∷ []) gives none
-    ∷ [] gives none
+    ((0 ∷ []) gives Some []
+    ∷ (1 ∷ replicate 13 0) gives Some (zone (pos 0) 0 ∷ [])
+    ∷ (1 ∷ replicate 12 0 ++ (1 ∷ 0 ∷ [])) gives Some (record { offset = pos 0; start = 0; name = Some [] } ∷ [])
+    ∷ (1 ∷ replicate 12 0 ++ (1 ∷ 2 ∷ 0xC3 ∷ 0xBC ∷ [])) gives Some (record { offset = pos 0; start = 0; name = Some (0xC3 ∷ 0xBC ∷ []) } ∷ [])
+    ∷ (1 ∷ replicate 4 0 ++ (replicate 8 255 ++ (0 ∷ []))) gives Some (zone (pos 0) top ∷ [])
+    ∷ (1 ∷ []) gives None
+    ∷ [] gives None
     ∷ [])
 unfolding read_zones read_all read_entry take_bytes read_name named row goes_on number signed
 zone_sections = refl
 
 -- a missing byte, a byte left over, other marks, a name cut off, malformed UTF-8, and a second entry that is short of the count
 damaged_zones : Gives read_zones
-    ((1 ∷ replicate 12 0) gives none
-    ∷ (1 ∷ replicate 14 0) gives none
-    ∷ (0 ∷ 0 ∷ []) gives none
-    ∷ (1 ∷ replicate 12 0 ++ (2 ∷ [])) gives none
-    ∷ (1 ∷ replicate 12 0 ++ (255 ∷ [])) gives none
-    ∷ (1 ∷ replicate 12 0 ++ (1 ∷ [])) gives none
-    ∷ (1 ∷ replicate 12 0 ++ (1 ∷ 2 ∷ 65 ∷ [])) gives none
-    ∷ (1 ∷ replicate 12 0 ++ (1 ∷ 1 ∷ 0xFF ∷ [])) gives none
-    ∷ (2 ∷ replicate 13 0) gives none
+    ((1 ∷ replicate 12 0) gives None
+    ∷ (1 ∷ replicate 14 0) gives None
+    ∷ (0 ∷ 0 ∷ []) gives None
+    ∷ (1 ∷ replicate 12 0 ++ (2 ∷ [])) gives None
+    ∷ (1 ∷ replicate 12 0 ++ (255 ∷ [])) gives None
+    ∷ (1 ∷ replicate 12 0 ++ (1 ∷ [])) gives None
+    ∷ (1 ∷ replicate 12 0 ++ (1 ∷ 2 ∷ 65 ∷ [])) gives None
+    ∷ (1 ∷ replicate 12 0 ++ (1 ∷ 1 ∷ 0xFF ∷ [])) gives None
+    ∷ (2 ∷ replicate 13 0) gives None
     ∷ [])
 unfolding read_zones read_all read_entry take_bytes read_name named row goes_on number signed
 damaged_zones = refl
 
 -- open; with an end; an end cut off; another mark
 window_sections : Gives read_windows
-    ((1 ∷ replicate 13 0) gives some (window (pos 0) 0 none ∷ [])
-    ∷ (1 ∷ replicate 12 0 ++ (1 ∷ replicate 8 255)) gives some (window (pos 0) 0 (some top) ∷ [])
-    ∷ (1 ∷ replicate 12 0 ++ (1 ∷ replicate 7 255)) gives none
-    ∷ (1 ∷ replicate 12 0 ++ (2 ∷ [])) gives none
+    ((1 ∷ replicate 13 0) gives Some (window (pos 0) 0 None ∷ [])
+    ∷ (1 ∷ replicate 12 0 ++ (1 ∷ replicate 8 255)) gives Some (window (pos 0) 0 (Some top) ∷ [])
+    ∷ (1 ∷ replicate 12 0 ++ (1 ∷ replicate 7 255)) gives None
+    ∷ (1 ∷ replicate 12 0 ++ (2 ∷ [])) gives None
     ∷ [])
 unfolding read_windows read_all read_entry take_bytes read_until number signed
 window_sections = refl
 
 -- ## Records
 
-records : Gives read_record ([] gives none ∷ (0 ∷ []) gives none ∷ (0 ∷ 0 ∷ []) gives some empty ∷ (0 ∷ 0 ∷ 0 ∷ []) gives none ∷ [])
+records : Gives read_record ([] gives None ∷ (0 ∷ []) gives None ∷ (0 ∷ 0 ∷ []) gives Some empty ∷ (0 ∷ 0 ∷ 0 ∷ []) gives None ∷ [])
 unfolding read_record read_all
 records = refl
 
@@ -127,8 +126,8 @@ records = refl
 abbrev fullest : Lists
 fullest =
     record {
-      zones = replicate 8 (record { offset = pos 0; start = 0; name = some (replicate 64 65) });
-      windows = replicate 16 (window (pos 0) 0 (some 1));
+      zones = replicate 8 (record { offset = pos 0; start = 0; name = Some (replicate 64 65) });
+      windows = replicate 16 (window (pos 0) 0 (Some 1));
     }
 
 fullest_record : length (record_bytes fullest) ≡ record_most

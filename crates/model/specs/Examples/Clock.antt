@@ -1,6 +1,5 @@
 -- The clock at the edges: ticks around an anchor, equal settings, the day rule, loads.
-use Rattle.std.specs.Prelude.{Bool, true, false, [], ◌∷◌, ◌++◌, ◌≡◌, refl, ℕ}
-use Rattle.std.proofs.Math.Option.{none, some}
+use Rattle.std.specs.Prelude.{Bool, true, false, [], ◌∷◌, ◌++◌, ◌≡◌, refl, ℕ, None, Some}
 use Rattle.model.specs.declared.TimeGranularity.TheVariants.{NoTime, Minutes, Seconds, Milliseconds, Microseconds}
 use Rattle.model.specs.declared.TimeSource.TheVariants as S
 use Rattle.model.specs.declared.Refusal.TheVariants.{BadRecord}
@@ -34,7 +33,7 @@ lower = refl
 
 -- until the clock is set, granularity and source read as none, whatever the record holds
 abbrev unset : Clock
-unset = record { utc = 9; persisted = 9; granularity = Minutes; source = S.Admin; anchor = none; trusted = none }
+unset = record { utc = 9; persisted = 9; granularity = Minutes; source = S.Admin; anchor = None; trusted = None }
 
 granularities : Gives granularity_read (unset gives NoTime ∷ clock gives Milliseconds ∷ [])
 unfolding granularity_read set_utc_time changes
@@ -139,74 +138,74 @@ source fabric node endpoint = record { fabric = fabric; node = node; endpoint = 
 
 -- a fresh clock and a set one, each with a source
 abbrev trusting : Clock
-trusting = with_trusted (fresh 0) (some (source 1 5 0))
+trusting = with_trusted (fresh 0) (Some (source 1 5 0))
 
 abbrev trusting_set : Clock
-trusting_set = with_trusted clock (some (source 1 5 0))
+trusting_set = with_trusted clock (Some (source 1 5 0))
 
 -- a setting on a clock that has a source: the source stays, and so does the persisted moment
 set_trusting : (set_utc_time trusting 5000 Seconds S.GNSS 70).state
-    ≡ record { utc = 5000; persisted = 0; granularity = Minutes; source = S.GNSS; anchor = some 70; trusted = some (source 1 5 0) }
+    ≡ record { utc = 5000; persisted = 0; granularity = Minutes; source = S.GNSS; anchor = Some 70; trusted = Some (source 1 5 0) }
 unfolding set_utc_time changes
 set_trusting = refl
 
 -- the same where the moment is stored
 persist_trusting : (set_utc_time_persist trusting 86400000000 Seconds S.GNSS 70).state
-    ≡ record { utc = 86400000000; persisted = 86400000000; granularity = Minutes; source = S.GNSS; anchor = some 70; trusted = some (source 1 5 0) }
+    ≡ record { utc = 86400000000; persisted = 86400000000; granularity = Minutes; source = S.GNSS; anchor = Some 70; trusted = Some (source 1 5 0) }
 unfolding set_utc_time_persist set_utc_time changes a_day_apart
 persist_trusting = refl
 
 -- a first source, another one and none on a set clock: the rest of the clock stays
-source_on_set : (set_trusted_time_source clock (some (source 1 5 0))).state
-    ≡ record { utc = 5000; persisted = 1000; granularity = Milliseconds; source = S.Admin; anchor = some 70; trusted = some (source 1 5 0) }
+source_on_set : (set_trusted_time_source clock (Some (source 1 5 0))).state
+    ≡ record { utc = 5000; persisted = 1000; granularity = Milliseconds; source = S.Admin; anchor = Some 70; trusted = Some (source 1 5 0) }
 unfolding set_trusted_time_source set_utc_time changes
 source_on_set = refl
 
-source_replaced : (set_trusted_time_source trusting_set (some (source 1 6 0))).state
-    ≡ record { utc = 5000; persisted = 1000; granularity = Milliseconds; source = S.Admin; anchor = some 70; trusted = some (source 1 6 0) }
+source_replaced : (set_trusted_time_source trusting_set (Some (source 1 6 0))).state
+    ≡ record { utc = 5000; persisted = 1000; granularity = Milliseconds; source = S.Admin; anchor = Some 70; trusted = Some (source 1 6 0) }
 unfolding set_trusted_time_source set_utc_time changes
 source_replaced = refl
 
-source_cleared : (set_trusted_time_source trusting_set none).state ≡ clock
+source_cleared : (set_trusted_time_source trusting_set None).state ≡ clock
 unfolding set_trusted_time_source set_utc_time changes
 source_cleared = refl
 
 -- an equal one; one that differs in the fabric, in the node or in the endpoint alone; none
 trusted : Gives (λ s. (set_trusted_time_source_persist trusting s).effects)
-    (some (source 1 5 0) gives []
-    ∷ some (source 2 5 0) gives (report TrustedTimeSource ∷ store_source (source 2 5 0) ∷ [])
-    ∷ some (source 1 6 0) gives (report TrustedTimeSource ∷ store_source (source 1 6 0) ∷ [])
-    ∷ some (source 1 5 1) gives (report TrustedTimeSource ∷ store_source (source 1 5 1) ∷ [])
-    ∷ none gives (report TrustedTimeSource ∷ emit MissingTrustedTimeSource ∷ remove_source ∷ [])
+    (Some (source 1 5 0) gives []
+    ∷ Some (source 2 5 0) gives (report TrustedTimeSource ∷ store_source (source 2 5 0) ∷ [])
+    ∷ Some (source 1 6 0) gives (report TrustedTimeSource ∷ store_source (source 1 6 0) ∷ [])
+    ∷ Some (source 1 5 1) gives (report TrustedTimeSource ∷ store_source (source 1 5 1) ∷ [])
+    ∷ None gives (report TrustedTimeSource ∷ emit MissingTrustedTimeSource ∷ remove_source ∷ [])
     ∷ [])
 unfolding set_trusted_time_source_persist set_trusted_time_source
 trusted = refl
 
 trusted_left : Gives (λ s. (set_trusted_time_source_persist trusting s).state.trusted)
-    (some (source 1 5 0) gives some (source 1 5 0)
-    ∷ some (source 2 5 0) gives some (source 2 5 0)
-    ∷ some (source 1 6 0) gives some (source 1 6 0)
-    ∷ some (source 1 5 1) gives some (source 1 5 1)
-    ∷ none gives none
+    (Some (source 1 5 0) gives Some (source 1 5 0)
+    ∷ Some (source 2 5 0) gives Some (source 2 5 0)
+    ∷ Some (source 1 6 0) gives Some (source 1 6 0)
+    ∷ Some (source 1 5 1) gives Some (source 1 5 1)
+    ∷ None gives None
     ∷ [])
 unfolding set_trusted_time_source_persist set_trusted_time_source
 trusted_left = refl
 
-never_trusted : (set_trusted_time_source_persist (fresh 0) none).effects ≡ []
+never_trusted : (set_trusted_time_source_persist (fresh 0) None).effects ≡ []
 unfolding set_trusted_time_source_persist set_trusted_time_source
 never_trusted = refl
 
 -- ## Load and reset
 
 -- a stored moment below the build moment persists as it is, and the UTC number is the build moment
-load_old : (load 1000 clock (some 7) none).state ≡ record { utc = 1000; persisted = 7; granularity = NoTime; source = S.None; anchor = none; trusted = none }
+load_old : (load 1000 clock (Some 7) None).state ≡ record { utc = 1000; persisted = 7; granularity = NoTime; source = S.None; anchor = None; trusted = None }
 unfolding load
 load_old = refl
 
 -- a stored moment above the build moment is the UTC number and the persisted moment; the stored source is the clock's
-load_new : load 1000 clock (some 2000) (some (source 1 5 0))
+load_new : load 1000 clock (Some 2000) (Some (source 1 5 0))
     ≡ record {
-      state = record { utc = 2000; persisted = 2000; granularity = NoTime; source = S.None; anchor = none; trusted = some (source 1 5 0) };
+      state = record { utc = 2000; persisted = 2000; granularity = NoTime; source = S.None; anchor = None; trusted = Some (source 1 5 0) };
       answer = done;
       effects = [];
     }
@@ -214,12 +213,12 @@ unfolding load
 load_new = refl
 
 -- nothing stored: the clock is fresh, set or not
-load_nothing : load 1000 clock none none ≡ record { state = fresh 1000; answer = done; effects = [] }
+load_nothing : load 1000 clock None None ≡ record { state = fresh 1000; answer = done; effects = [] }
 unfolding load
 load_nothing = refl
 
 -- a stored source of fabric 0 leaves the clock as it was
-load_fabric_0 : load 1000 clock none (some (source 0 1 1)) ≡ record { state = clock; answer = refused BadRecord; effects = [] }
+load_fabric_0 : load 1000 clock None (Some (source 0 1 1)) ≡ record { state = clock; answer = refused BadRecord; effects = [] }
 unfolding load
 load_fabric_0 = refl
 

@@ -1,6 +1,5 @@
 -- The handler's refusals, in their order, and what its commands ask for.
-use Rattle.std.specs.Prelude.{true, false, [], ◌∷◌, ◌++◌, ◌≡◌, refl, pos}
-use Rattle.std.proofs.Math.Option.{Option, none, some}
+use Rattle.std.specs.Prelude.{true, false, [], ◌∷◌, ◌++◌, ◌≡◌, refl, pos, Option, None, Some}
 use Rattle.model.specs.declared.TimeGranularity.TheVariants.{NoTime, Milliseconds}
 use Rattle.model.specs.declared.TimeSource.TheVariants.{None, Admin}
 use Rattle.model.specs.declared.Refusal.TheVariants.{Unreadable, ConstraintError, InvalidCommand, AttributeNotFound}
@@ -23,10 +22,10 @@ use Rattle.model.specs.Examples.Cases.{Gives, ◌gives◌}
 
 -- a device with no list store, and one with empty lists
 abbrev bare : Device
-bare = record { clock = fresh 1000; store = none }
+bare = record { clock = fresh 1000; store = None }
 
 abbrev listing : Device
-listing = record { clock = fresh 1000; store = some (record { rules = device; lists = empty; generation = 0 }) }
+listing = record { clock = fresh 1000; store = Some (record { rules = device; lists = empty; generation = 0 }) }
 
 -- ## No list store: commands before their bytes are read, readings, and nothing to load or reset
 
@@ -38,7 +37,7 @@ readings : Gives (λ index. number_of (zone_at bare index)) (0 gives 6 ∷ 1 giv
 unfolding zone_at
 readings = refl
 
-load_ignored : load_lists bare (some (9 ∷ [])) ≡ record { state = bare; answer = done; effects = [] }
+load_ignored : load_lists bare (Some (9 ∷ [])) ≡ record { state = bare; answer = done; effects = [] }
 unfolding load_lists
 load_ignored = refl
 
@@ -58,7 +57,7 @@ windows = refl
 
 -- the sizes at limits that differ: each is its own list's limit
 abbrev uneven : Device
-uneven = record { clock = fresh 1000; store = some (record { rules = record { zone_limit = 3; window_limit = 7 }; lists = named; generation = 5 }) }
+uneven = record { clock = fresh 1000; store = Some (record { rules = record { zone_limit = 3; window_limit = 7 }; lists = named; generation = 5 }) }
 
 zone_limits : Gives zone_limit_read (bare gives refused AttributeNotFound ∷ listing gives answers 2 ∷ uneven gives answers 3 ∷ [])
 unfolding zone_limit_read
@@ -78,7 +77,7 @@ unfolding windows_listed
 window_counts = refl
 
 -- the active zone with its name
-active_zone_lem : Gives (active_zone uneven) (0 gives answers (record { offset = pos 60; name = none }) ∷ 20 gives answers (record { offset = pos 180; name = some (67 ∷ 69 ∷ 84 ∷ []) }) ∷ [])
+active_zone_lem : Gives (active_zone uneven) (0 gives answers (record { offset = pos 60; name = None }) ∷ 20 gives answers (record { offset = pos 180; name = Some (67 ∷ 69 ∷ 84 ∷ []) }) ∷ [])
 unfolding active_zone L.active_zone keep last
 active_zone_lem = refl
 
@@ -88,7 +87,7 @@ database = refl
 
 -- ## Lookups on the device's own lists: active, usable, empty, next transition, walk, generation, record
 
-active_offset_lem : Gives (active_offset uneven) (999 gives answers none ∷ 1000 gives answers (some (pos 3600)) ∷ 2000 gives answers none ∷ [])
+active_offset_lem : Gives (active_offset uneven) (999 gives answers None ∷ 1000 gives answers (Some (pos 3600)) ∷ 2000 gives answers None ∷ [])
 unfolding active_offset L.active_offset L.active_window keep first
 active_offset_lem = refl
 
@@ -100,7 +99,7 @@ empty_read : Gives table_empty (bare gives refused AttributeNotFound ∷ listing
 unfolding table_empty L.table_empty
 empty_read = refl
 
-next_read : Gives (next_transition uneven) (0 gives answers (some 10) ∷ 20 gives answers (some 1000) ∷ 2000 gives answers none ∷ [])
+next_read : Gives (next_transition uneven) (0 gives answers (Some 10) ∷ 20 gives answers (Some 1000) ∷ 2000 gives answers None ∷ [])
 unfolding next_transition L.next_transition L.zone_starts L.window_bounds keep least_of smallest
 next_read = refl
 
@@ -119,9 +118,9 @@ record_read_lem = refl
 -- ## Readings of the clock, set and not
 
 abbrev running : Device
-running = (set_utc_time_command uneven 900 4 none 1).state
+running = (set_utc_time_command uneven 900 4 None 1).state
 
-utc_read : Gives (λ d. read_utc_time d 51) (bare gives none ∷ running gives some 950 ∷ [])
+utc_read : Gives (λ d. read_utc_time d 51) (bare gives None ∷ running gives Some 950 ∷ [])
 unfolding set_utc_time_command granularity_of C.set_utc_time C.changes C.reading
 utc_read = refl
 
@@ -134,55 +133,55 @@ unfolding set_utc_time_command granularity_of C.set_utc_time C.changes C.source_
 source_read_lem = refl
 
 -- LocalTime: null on a clock that is not set, list store or none; before a window, inside it, and run out
-local_unset : Gives (λ d. read_local_time d 51) (bare gives answers none ∷ uneven gives answers none ∷ [])
+local_unset : Gives (λ d. read_local_time d 51) (bare gives answers None ∷ uneven gives answers None ∷ [])
 unfolding local_time C.reading
 local_unset = refl
 
-local_read : Gives (read_local_time running) (51 gives answers (some 180000950) ∷ 101 gives answers (some 3780001000) ∷ 1101 gives answers none ∷ [])
+local_read : Gives (read_local_time running) (51 gives answers (Some 180000950) ∷ 101 gives answers (Some 3780001000) ∷ 1101 gives answers None ∷ [])
 unfolding set_utc_time_command granularity_of C.set_utc_time C.changes C.reading local_time shown combined_offset L.active_zone L.last_active_window L.usable keep last any
 local_read = refl
 
 -- ## SetUTCTime
 
 -- granularities 0 to 4 and time sources 0 to 16, or none, are readable
-granularities : Gives (λ g. number_of (set_utc_time_command bare 7 g none 1).answer) (0 gives 0 ∷ 4 gives 0 ∷ 5 gives 1 ∷ 255 gives 1 ∷ [])
+granularities : Gives (λ g. number_of (set_utc_time_command bare 7 g None 1).answer) (0 gives 0 ∷ 4 gives 0 ∷ 5 gives 1 ∷ 255 gives 1 ∷ [])
 unfolding set_utc_time_command granularity_of
 granularities = refl
 
-sources : Gives (λ s. number_of (set_utc_time_command bare 7 2 s 1).answer) (none gives 0 ∷ some 0 gives 0 ∷ some 16 gives 0 ∷ some 17 gives 1 ∷ some 255 gives 1 ∷ [])
+sources : Gives (λ s. number_of (set_utc_time_command bare 7 2 s 1).answer) (None gives 0 ∷ Some 0 gives 0 ∷ Some 16 gives 0 ∷ Some 17 gives 1 ∷ Some 255 gives 1 ∷ [])
 unfolding set_utc_time_command granularity_of source_of
 sources = refl
 
-unreadable : set_utc_time_command listing 7 5 none 1 ≡ record { state = listing; answer = refused Unreadable; effects = [] }
+unreadable : set_utc_time_command listing 7 5 None 1 ≡ record { state = listing; answer = refused Unreadable; effects = [] }
 unfolding set_utc_time_command granularity_of
 unreadable = refl
 
 -- whatever source was sent, the clock's is Admin
-source_is_admin : (set_utc_time_command bare 7 2 (some 16) 1).state.clock.source ≡ Admin
+source_is_admin : (set_utc_time_command bare 7 2 (Some 16) 1).state.clock.source ≡ Admin
 unfolding set_utc_time_command granularity_of source_of C.set_utc_time C.changes
 source_is_admin = refl
 
 -- the timer is woken only where there is a list store; an equal setting reports and wakes as well, and is anchored at its tick
-wakes : Gives (λ d. (set_utc_time_command d 7 2 none 1).effects) (bare gives utc_reports ∷ listing gives (utc_reports ++ (wake_timer ∷ [])) ∷ [])
+wakes : Gives (λ d. (set_utc_time_command d 7 2 None 1).effects) (bare gives utc_reports ∷ listing gives (utc_reports ++ (wake_timer ∷ [])) ∷ [])
 unfolding set_utc_time_command granularity_of C.set_utc_time C.changes
 wakes = refl
 
-wakes_again : (set_utc_time_command (set_utc_time_command listing 7 2 none 1).state 7 2 none 9).effects ≡ utc_reports ++ (wake_timer ∷ [])
+wakes_again : (set_utc_time_command (set_utc_time_command listing 7 2 None 1).state 7 2 None 9).effects ≡ utc_reports ++ (wake_timer ∷ [])
 unfolding set_utc_time_command granularity_of C.set_utc_time C.changes
 wakes_again = refl
 
-anchored_again : Gives (λ g. (set_utc_time_command (set_utc_time_command listing 7 2 none 1).state 7 g none 9).state.clock.anchor) (2 gives some 9 ∷ 0 gives some 9 ∷ 5 gives some 1 ∷ [])
+anchored_again : Gives (λ g. (set_utc_time_command (set_utc_time_command listing 7 2 None 1).state 7 g None 9).state.clock.anchor) (2 gives Some 9 ∷ 0 gives Some 9 ∷ 5 gives Some 1 ∷ [])
 unfolding set_utc_time_command granularity_of C.set_utc_time
 anchored_again = refl
 
 -- ## SetTrustedTimeSource
 
 abbrev node5 : Option Named
-node5 = some (record { node = 5; endpoint = 0 })
+node5 = Some (record { node = 5; endpoint = 0 })
 
 -- fabric 0 is turned down before anything else, also where the source would be cleared
 fabric_0 : Gives (set_trusted_time_source bare 0)
-    (none gives record { state = bare; answer = refused InvalidCommand; effects = [] } ∷ node5 gives record { state = bare; answer = refused InvalidCommand; effects = [] } ∷ [])
+    (None gives record { state = bare; answer = refused InvalidCommand; effects = [] } ∷ node5 gives record { state = bare; answer = refused InvalidCommand; effects = [] } ∷ [])
 unfolding set_trusted_time_source
 fabric_0 = refl
 
@@ -195,11 +194,11 @@ source_set_lem : Gives (λ d. (set_trusted_time_source d 1 node5).effects)
 unfolding set_trusted_time_source C.set_trusted_time_source_persist C.set_trusted_time_source
 source_set_lem = refl
 
-source_told : Gives read_trusted_time_source (bare gives none ∷ sourced gives some (record { fabric = 1; node = 5; endpoint = 0 }) ∷ [])
+source_told : Gives read_trusted_time_source (bare gives None ∷ sourced gives Some (record { fabric = 1; node = 5; endpoint = 0 }) ∷ [])
 unfolding set_trusted_time_source C.set_trusted_time_source_persist C.set_trusted_time_source
 source_told = refl
 
-source_cleared : Gives (λ d. (set_trusted_time_source d 2 none).effects)
+source_cleared : Gives (λ d. (set_trusted_time_source d 2 None).effects)
     (bare gives (wake_client ∷ []) ∷ sourced gives (report TrustedTimeSource ∷ emit MissingTrustedTimeSource ∷ remove_source ∷ wake_client ∷ []) ∷ [])
 unfolding set_trusted_time_source C.set_trusted_time_source_persist C.set_trusted_time_source
 source_cleared = refl

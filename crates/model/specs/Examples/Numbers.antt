@@ -1,6 +1,5 @@
 -- The first and the last number of each kind, and one past it.
-use Rattle.std.specs.Prelude.{List, [], ◌∷◌, refl, ℕ}
-use Rattle.std.proofs.Math.Option.{none, some}
+use Rattle.std.specs.Prelude.{List, [], ◌∷◌, refl, ℕ, None, Some}
 use Rattle.model.specs.declared.TimeGranularity.TheVariants.{NoTime, Microseconds}
 use Rattle.model.specs.declared.TimeSource.TheVariants as S
 use Rattle.model.specs.declared.Refusal.TheVariants.{Unreadable, NoSpace}
@@ -10,15 +9,15 @@ use Rattle.model.specs.Answers.{Attribute, UTCTime, Granularity, TimeZone, DSTOf
 use Rattle.model.specs.Codes.{returned}
 use Rattle.model.specs.Examples.Cases.{Gives, ◌gives◌}
 
-granularities : Gives granularity_of (0 gives some NoTime ∷ 4 gives some Microseconds ∷ 5 gives none ∷ 255 gives none ∷ [])
+granularities : Gives granularity_of (0 gives Some NoTime ∷ 4 gives Some Microseconds ∷ 5 gives None ∷ 255 gives None ∷ [])
 unfolding granularity_of
 granularities = refl
 
-sources : Gives source_of (0 gives some S.None ∷ 15 gives some S.PTP ∷ 16 gives some S.GNSS ∷ 17 gives none ∷ 255 gives none ∷ [])
+sources : Gives source_of (0 gives Some S.None ∷ 15 gives Some S.PTP ∷ 16 gives Some S.GNSS ∷ 17 gives None ∷ 255 gives None ∷ [])
 unfolding source_of
 sources = refl
 
-refusals : Gives refusal_of (0 gives none ∷ 1 gives some Unreadable ∷ 9 gives some NoSpace ∷ 10 gives none ∷ 255 gives none ∷ [])
+refusals : Gives refusal_of (0 gives None ∷ 1 gives Some Unreadable ∷ 9 gives Some NoSpace ∷ 10 gives None ∷ 255 gives None ∷ [])
 unfolding refusal_of
 refusals = refl
 

@@ -1,6 +1,5 @@
 -- Lists at the edges of the rules.
-use Rattle.std.specs.Prelude.{true, false, [], ◌∷◌, refl, ℕ, pos, neg_ℤ, replicate}
-use Rattle.std.proofs.Math.Option.{none, some}
+use Rattle.std.specs.Prelude.{true, false, [], ◌∷◌, refl, ℕ, pos, neg_ℤ, replicate, None, Some}
 use Rattle.model.specs.declared.Refusal.TheVariants.{ConstraintError, ResourceExhausted}
 use Rattle.model.specs.Basics.{top}
 use Rattle.model.specs.Lists.{Zone}
@@ -18,7 +17,7 @@ unfolding allowed
 limit_pairs = refl
 
 abbrev named : ℕ → Zone
-named length = record { offset = pos 0; start = 0; name = some (replicate length 65) }
+named length = record { offset = pos 0; start = 0; name = Some (replicate length 65) }
 
 -- at limits 2 and 2: no zone, as many as the limit, one more; which failure comes first; starts; names of 64 and 65 bytes
 device_zones : Gives (test_zones device)
@@ -47,14 +46,14 @@ largest_zones = refl
 -- windows: none, after an open one, an equal start, a start at and below the end before, an end at and below the start, every offset, both ends of time
 device_windows : Gives (test_windows device)
     ([] gives accepted
-    ∷ (window (pos 0) 1 none ∷ window (pos 0) 5 (some 6) ∷ []) gives turned_down ConstraintError
-    ∷ (window (pos 0) 5 (some 6) ∷ window (pos 0) 5 (some 9) ∷ []) gives turned_down ConstraintError
-    ∷ (window (pos 0) 5 (some 6) ∷ window (pos 0) 6 none ∷ []) gives accepted
-    ∷ (window (pos 0) 5 (some 7) ∷ window (pos 0) 6 none ∷ []) gives turned_down ConstraintError
-    ∷ (window (pos 0) 1000 (some 1000) ∷ []) gives turned_down ConstraintError
-    ∷ (window (pos 0) 1001 (some 1000) ∷ []) gives turned_down ConstraintError
-    ∷ (window (neg_ℤ (pos 2147483648)) 0 (some top) ∷ window (pos 2147483647) top none ∷ []) gives accepted
-    ∷ (window (pos 0) 0 (some 1) ∷ window (pos 0) 1 (some 2) ∷ window (pos 0) 2 (some 3) ∷ []) gives turned_down ResourceExhausted
+    ∷ (window (pos 0) 1 None ∷ window (pos 0) 5 (Some 6) ∷ []) gives turned_down ConstraintError
+    ∷ (window (pos 0) 5 (Some 6) ∷ window (pos 0) 5 (Some 9) ∷ []) gives turned_down ConstraintError
+    ∷ (window (pos 0) 5 (Some 6) ∷ window (pos 0) 6 None ∷ []) gives accepted
+    ∷ (window (pos 0) 5 (Some 7) ∷ window (pos 0) 6 None ∷ []) gives turned_down ConstraintError
+    ∷ (window (pos 0) 1000 (Some 1000) ∷ []) gives turned_down ConstraintError
+    ∷ (window (pos 0) 1001 (Some 1000) ∷ []) gives turned_down ConstraintError
+    ∷ (window (neg_ℤ (pos 2147483648)) 0 (Some top) ∷ window (pos 2147483647) top None ∷ []) gives accepted
+    ∷ (window (pos 0) 0 (Some 1) ∷ window (pos 0) 1 (Some 2) ∷ window (pos 0) 2 (Some 3) ∷ []) gives turned_down ResourceExhausted
     ∷ [])
 unfolding demand and_then test_from window_rule test_windows
 device_windows = refl

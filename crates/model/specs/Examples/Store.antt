@@ -1,6 +1,5 @@
 -- The list store's calls: what they leave, answer and ask for; and calls with an output slice.
-use Rattle.std.specs.Prelude.{true, List, [], ◌∷◌, ◌++◌, ◌≡◌, refl, ℕ, ◌-◌, ◌^◌, pos, replicate}
-use Rattle.std.proofs.Math.Option.{none, some}
+use Rattle.std.specs.Prelude.{true, List, [], ◌∷◌, ◌++◌, ◌≡◌, refl, ℕ, ◌-◌, ◌^◌, pos, replicate, None, Some}
 use Rattle.model.specs.declared.Refusal.TheVariants.{Unreadable, ConstraintError, BadRecord}
 use Rattle.model.specs.Basics.{run}
 use Rattle.model.specs.Lists.{Lists, empty}
@@ -71,15 +70,15 @@ unfolding factory_reset after
 reset = refl
 
 -- a load counts nothing: no record leaves the lists, an empty one empties them, and one of no bytes is bad
-load_nothing : load full none ≡ record { state = full; answer = done; effects = [] }
+load_nothing : load full None ≡ record { state = full; answer = done; effects = [] }
 unfolding load verdict after
 load_nothing = refl
 
-load_empty : load full (some (0 ∷ 0 ∷ [])) ≡ record { state = store empty (2 ^ 32 - 1); answer = done; effects = [] }
+load_empty : load full (Some (0 ∷ 0 ∷ [])) ≡ record { state = store empty (2 ^ 32 - 1); answer = done; effects = [] }
 unfolding load verdict after read_record read_all and_then test_from test_zones test_windows
 load_empty = refl
 
-load_bad : load full (some []) ≡ record { state = full; answer = refused BadRecord; effects = [] }
+load_bad : load full (Some []) ≡ record { state = full; answer = refused BadRecord; effects = [] }
 unfolding load verdict read_record
 load_bad = refl
 
@@ -92,8 +91,8 @@ faulty_then_unreadable = 2 ∷ replicate 12 0 ++ (1 ∷ replicate 8 0 ++ (9 ∷ 
 verdicts : Gives (verdict device)
     (SetDSTOffset faulty_then_unreadable gives turned_down Unreadable
     ∷ SetDSTOffset [] gives turned_down Unreadable
-    ∷ Load (some []) gives turned_down BadRecord
-    ∷ Load none gives accepted
+    ∷ Load (Some []) gives turned_down BadRecord
+    ∷ Load None gives accepted
     ∷ FactoryReset gives accepted
     ∷ [])
 unfolding verdict read_windows read_all read_entry take_bytes read_until read_record
@@ -103,7 +102,7 @@ verdicts = refl
 abbrev three_zones : List ℕ
 three_zones = record_bytes (record { zones = zone (pos 0) 0 ∷ zone (pos 0) 1 ∷ zone (pos 0) 2 ∷ []; windows = [] })
 
-own_limits : Gives (λ zone_limit. verdict (record { zone_limit = zone_limit; window_limit = 1 }) (Load (some three_zones))) (2 gives turned_down BadRecord ∷ 3 gives accepted ∷ [])
+own_limits : Gives (λ zone_limit. verdict (record { zone_limit = zone_limit; window_limit = 1 }) (Load (Some three_zones))) (2 gives turned_down BadRecord ∷ 3 gives accepted ∷ [])
 unfolding verdict record_bytes zones_bytes windows_bytes all_bytes bytes bits_of read_record read_all read_entry take_bytes read_name number signed demand and_then test_from zone_rule test_zones test_windows
 own_limits = refl
 

@@ -1,19 +1,15 @@
 -- `schedule_text::walked` meets its contract: the header, the lines, and the steps after them.
-use mathlib.Core.List.{List}
-use mathlib.Core.Path.{◌≡◌, ap, subst, ◌∙◌}
-use Prim.Native.Nat.{ℕ, suc, ◌+◌, ◌-◌, ◌≤◌}
-use native.Mathlib.Omega.{arith}
-use lib.ListN.{length, take, replicate, length-take, length-append, length-replicate}
+use Rattle.std.proofs.Common.{◌≡◌, ℕ, suc, ◌-◌, ◌≤◌, List, length, take, replicate, length-take, length-append, ap, ◌∙◌, arith, rules}
+use lib.ListN.{length-replicate}
 use Rattle.model.specs.Bytes.{all_bytes}
 use Rattle.model.specs.Walk as W
 use Rattle.model.specs.Schedule.{decimal, line}
-use Rattle.word.specs.Place.{put}
 use Rattle.table.specs.Layout.{lists_in}
 use Rattle.lookups.specs.declared.Walk.{Walk}
 use Rattle.lookups.specs.Transitions.{walk_owned}
 use Rattle.lookups.proofs.Walked.{holds_the_walk}
-use Rattle.text.proofs.Runs.{written_as}
-use Rattle.schedule_text.proofs.Texts.{lines_fit, walk_text_lem}
+use Rattle.text.proofs.Runs.{wrote_as}
+use Rattle.schedule_text.proofs.Texts.{lines_fit, walk_text_lem, as_text}
 use Rattle.schedule_text.proofs.walked.Goals as goal
 
 abbrev moments_of : Walk → List ℕ
@@ -30,22 +26,23 @@ few s start =
     let w = W.walk (lists_in s) start in
     omega (arith, ap length (holds_the_walk s start), length-take (suc w.steps) (walk_owned w).moments, forty_one w)
 
-pub put_lines-last-requires : goal.put_lines-last-requires
-put_lines-last-requires c = let p = c.put_word-first in lines_fit p.new.out p.result p.ensures
+-- the moments of a walk by value
+moments_are : (s : List ℕ) (start : ℕ) {v : Walk} {ms : List ℕ} → v ≡ walk_owned (W.walk (lists_in s) start) → ms ≡ moments_of v → ms ≡ (W.walk (lists_in s) start).moments
+moments_are s start e f = f ∙ ap moments_of e ∙ holds_the_walk s start
+
+pub put_lines-requires : goal.put_lines-requires
+put_lines-requires c =
+    let a = c.args in
+    let m = moments_are a.table.now a.start c.walk-walk.ensures c.walked.ensures in
+    lines_fit c.new-out.ensures.place c.new-out.ensures.bytes c.word.ensures (length c.walked.result.now) (omega (arith, ap length m, few a.table.now a.start))
 
 pub returns : goal.returns
 returns c =
-    let p₅ = c.put_word-length in
-    let p₄ = c.put_decimal-end in
-    let p₃ = c.put_word-number in
-    let p₂ = c.put_lines-last in
-    let p₁ = c.put_word-first in
-    let a = c.args in
-    let s = a.table.now in
+    let s = c.args.table.now in
     let l = lists_in s in
-    let w = W.walk l a.start in
-    let m : moments_of c.walk-walk.result ≡ w.moments = ap moments_of c.walk-walk.ensures ∙ holds_the_walk s a.start in
+    let w = W.walk l c.args.start in
+    let m = moments_are s c.args.start c.walk-walk.ensures c.walked.ensures in
     let n : c.walk-walk.result.steps ≡ w.steps = ap (λ (v : Walk). v.steps) c.walk-walk.ensures in
-    walk_text_lem p₁.new.out p₁.result p₁.ensures l w (few s a.start) p₂.new.out p₂.result
-    (subst (λ (ms : List ℕ). (p₂.new.out ≡ put p₁.new.out p₁.result (all_bytes (line l) ms)) × (p₂.result ≡ p₁.result + length (all_bytes (line l) ms))) m p₂.ensures)
-    p₃.new.out p₃.result p₃.ensures p₄.new.out p₄.result (written_as p₃.new.out p₃.result p₄.new.out p₄.result (ap decimal n) p₄.ensures) p₅.new.out p₅.result p₅.ensures
+    let t = walk_text_lem c.new-out.ensures.place c.new-out.ensures.bytes c.word.ensures l w (few s c.args.start)
+    (wrote_as (ap (all_bytes (line l)) m) c.put_lines.ensures) c.word-2.ensures (wrote_as (ap decimal n) c.decimal.ensures) c.word-3.ensures in
+    as_text c.word-3.new.self t c.place-length.ensures (search rules)

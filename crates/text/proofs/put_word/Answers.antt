@@ -2,8 +2,9 @@
 use Rattle.std.proofs.Common.{◌≡◌, ℕ, ◌+◌, ◌-◌, List, ◌++◌, length, take, drop, sym, ap, ◌∙◌, arith, append_assoc, drop-drop}
 use borrow.Rule.Slice.PartMut.{put_mid}
 use Rattle.word.specs.Place.{put}
-use Rattle.word.proofs.Places.{fitting}
-use Rattle.text.proofs.Runs.{is_written, not_written}
+use Rattle.word.proofs.Places.{fitting, placed_there}
+use Rattle.word.proofs.Writes.{placed_short}
+use Rattle.text.proofs.Runs.{after_there, after_short}
 use Rattle.text.proofs.put_word.Goals as goal
 
 -- a part that was copied over, back in its place
@@ -17,11 +18,13 @@ back s at bs =
 pub returns-then-in_bounds : goal.returns-then-in_bounds
 returns-then-in_bounds c =
     let a = c.args in
+    let s = a.out.now in
     let bs = a.ascii.now in
-    let w = is_written a.out.now a.at bs (fitting (length bs) a.out.now a.at c.in_bounds.ensures c.if-in_bounds.true) in
-    (ap (put_mid a.at (a.at + length bs - a.at) a.out.now) c.copy_from_slice.ensures.after ∙ back a.out.now a.at bs ∙ w.0, w.1)
+    let h = fitting (length bs) s a.at c.in_bounds.ensures c.if-in_bounds.true in
+    (ap (put_mid a.at (a.at + length bs - a.at) s) c.copy_from_slice.ensures.after ∙ back s a.at bs ∙ sym (placed_there s a.at bs h), sym (after_there s a.at bs h))
 
 pub returns : goal.returns
 returns c =
     let a = c.args in
-    not_written a.out.now a.at a.ascii.now (sym c.in_bounds.ensures ∙ c.if-in_bounds.false)
+    let h = sym c.in_bounds.ensures ∙ c.if-in_bounds.false in
+    (sym (placed_short a.out.now a.at a.ascii.now h), sym (after_short a.out.now a.at a.ascii.now h))

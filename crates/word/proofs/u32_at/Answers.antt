@@ -1,21 +1,9 @@
 -- `word::u32_at` meets its contract.
-use mathlib.Core.Option.{some}
-use mathlib.Core.Path.{sym, ap, ◌∙◌}
-use Rattle.word.specs.Place.{maybe_u32}
-use Rattle.word.proofs.Places.{fitting, number_is, number_none}
+use Rattle.word.proofs.Parts.{read, unread}
 use Rattle.word.proofs.u32_at.Goals as goal
 
-pub u32_at-requires : goal.u32_at-requires
-u32_at-requires c =
-    let a = c.args in
-    fitting 4 a.s.now a.at c.in_bounds.ensures c.if-in_bounds.true
-
-pub returns-then-in_bounds : goal.returns-then-in_bounds
-returns-then-in_bounds c =
-    let a = c.args in
-    ap maybe_u32 (ap some c.u32_at.ensures ∙ sym (number_is 4 a.s.now a.at c.in_bounds.ensures c.if-in_bounds.true))
+pub returns-in_err-array_at : goal.returns-in_err-array_at
+returns-in_err-array_at c = unread 4 c.args.s.now c.args.at c.array_at.ensures c.in_err-array_at.was c.from_residual.ensures
 
 pub returns : goal.returns
-returns c =
-    let a = c.args in
-    sym (ap maybe_u32 (number_none 4 a.s.now a.at c.in_bounds.ensures c.if-in_bounds.false))
+returns c = read 3 c.args.s.now c.args.at c.in_ok-array_at.field-0 c.array_at.ensures c.in_ok-array_at.was c.from_le_bytes.ensures

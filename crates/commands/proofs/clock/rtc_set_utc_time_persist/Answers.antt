@@ -1,14 +1,14 @@
 -- `clock::rtc_set_utc_time_persist` meets its contract.
-use mathlib.Core.Path.{sym, ap, ◌∙◌}
-use Rattle.image.specs.Parts.{device_in}
-use Rattle.model.specs.declared.Refusal.TheVariants.{Unreadable, BadLimits}
-use Rattle.model.specs.Numbers.{option_granularity, granularity_of, option_time_source, source_of}
+use Rattle.std.proofs.Common.{refl, ◌≡◌, ◌∙◌, None, Some}
+use Rattle.std.specs.Option.{option_zip}
 use Rattle.model.specs.Clock as C
 use Rattle.model.specs.Clock.{Persisted}
+use Rattle.model.specs.Numbers.{granularity_of, source_of}
 use Rattle.model.specs.Output.{truth}
+use Rattle.rtc.specs.Meaning.{utc_time_persisted_of}
+use Rattle.image.specs.Parts.{device_in}
 use Rattle.commands.specs.Calls.{set_by, clock_set_persist}
-use Rattle.commands.proofs.Says.{Tells, refusal_tells, on_image, off_image, no_granularity, no_source, both_read}
-use borrow.Author.Tests.{not-true, not-false}
+use Rattle.commands.proofs.Says.{Tells, truth_is, on_image, off_image, unread, both_read, persist_tells}
 use Rattle.commands.proofs.clock.rtc_set_utc_time_persist.Goals as goal
 
 pub returns-then-not-is_image : goal.returns-then-not-is_image
@@ -16,46 +16,36 @@ unfolding clock_set_persist
 returns-then-not-is_image c =
     let a = c.args in
     let s = a.image.now in
-    let d = device_in s in
     let old = a.changed.now in
-    let P = Tells (λ (p : Persisted). truth p.changed) s old 8 s old in
-    let q = set_by C.set_utc_time_persist d a.utc_us (granularity_of a.granularity) (source_of a.source) a.tick in
-    off_image P s q (sym c.is_image.ensures ∙ not-true _ c.if-not-is_image.true-raw) (refusal_tells s d BadLimits (λ (p : Persisted). truth p.changed) old)
+    off_image (Tells (λ (p : Persisted). truth p.changed) s old c.refusal.result s old) s (set_by C.set_utc_time_persist (device_in s) a.utc_us (granularity_of a.granularity) (source_of a.source) a.tick)
+    c.if-not-is_image.ensures (c.refusal.ensures, refl, refl)
 
-pub returns-in-Bad : goal.returns-in-Bad
+pub returns-in_default : goal.returns-in_default
 unfolding clock_set_persist
-returns-in-Bad c =
+returns-in_default c =
     let a = c.args in
     let s = a.image.now in
     let d = device_in s in
     let old = a.changed.now in
-    let P = Tells (λ (p : Persisted). truth p.changed) s old 1 s old in
-    let q = set_by C.set_utc_time_persist d a.utc_us (granularity_of a.granularity) (source_of a.source) a.tick in
-    on_image P s q (sym c.is_image.ensures ∙ not-false _ c.if-not-is_image.false-raw)
-    (no_granularity P C.set_utc_time_persist d a.utc_us a.tick (source_of a.source) (sym c.granularity_of.ensures ∙ ap option_granularity c.in-Bad.is) (refusal_tells s d Unreadable (λ (p : Persisted). truth p.changed) old))
+    let g = granularity_of a.granularity in
+    let t = source_of a.source in
+    let P = Tells (λ (p : Persisted). truth p.changed) s old c.refusal-in_default.result s old in
+    let e : None ≡ option_zip g t = cc c.in_default.ensures in
+    on_image P s (set_by C.set_utc_time_persist d a.utc_us g t a.tick) c.if-not-is_image.ensures
+    (unread P C.set_utc_time_persist d a.utc_us a.tick g t e (c.refusal-in_default.ensures, refl, refl))
 
-pub returns-in-Bad-source_of : goal.returns-in-Bad-source_of
+pub returns : goal.returns
 unfolding clock_set_persist
-returns-in-Bad-source_of c =
+returns c =
     let a = c.args in
     let s = a.image.now in
     let d = device_in s in
     let old = a.changed.now in
-    let P = Tells (λ (p : Persisted). truth p.changed) s old 1 s old in
-    let q = set_by C.set_utc_time_persist d a.utc_us (granularity_of a.granularity) (source_of a.source) a.tick in
-    on_image P s q (sym c.is_image.ensures ∙ not-false _ c.if-not-is_image.false-raw)
-    (no_source P C.set_utc_time_persist d a.utc_us a.tick c.in-Is.g (sym c.granularity_of.ensures ∙ ap option_granularity c.in-Is.is)
-    (sym c.source_of.ensures ∙ ap option_time_source c.in-Bad-source_of.is) (refusal_tells s d Unreadable (λ (p : Persisted). truth p.changed) old))
-
-pub returns-in-Is-source_of : goal.returns-in-Is-source_of
-unfolding clock_set_persist
-returns-in-Is-source_of c =
-    let a = c.args in
-    let s = a.image.now in
-    let d = device_in s in
-    let old = a.changed.now in
-    let P = Tells (λ (p : Persisted). truth p.changed) s old _ _ _ in
-    let q = set_by C.set_utc_time_persist d a.utc_us (granularity_of a.granularity) (source_of a.source) a.tick in
-    on_image P s q (sym c.is_image.ensures ∙ not-false _ c.if-not-is_image.false-raw)
-    (both_read P C.set_utc_time_persist d a.utc_us a.tick c.in-Is.g c.in-Is-source_of.t (sym c.granularity_of.ensures ∙ ap option_granularity c.in-Is.is)
-    (sym c.source_of.ensures ∙ ap option_time_source c.in-Is-source_of.is) c.rtc_set_persist.ensures)
+    let g = c.in-Some.granularity in
+    let t = c.in-Some.source in
+    let e : Some (g, t) ≡ option_zip (granularity_of a.granularity) (source_of a.source) = cc c.in-Some.ensures in
+    let k : utc_time_persisted_of c.set_utc_time_persist-set.result ≡ C.set_utc_time_persist d.clock a.utc_us g t a.tick = cc in
+    let P = Tells (λ (p : Persisted). truth p.changed) s old _ c.put_rtc.new.s c.from.result in
+    on_image P s (set_by C.set_utc_time_persist d a.utc_us (granularity_of a.granularity) (source_of a.source) a.tick) c.if-not-is_image.ensures
+    (both_read P C.set_utc_time_persist d a.utc_us a.tick g t (granularity_of a.granularity) (source_of a.source) e
+    (persist_tells s d old _ _ _ c.set_utc_time_persist-set.result _ k c.setting.ensures c.put_rtc.ensures (c.from.ensures ∙ truth_is c.set_utc_time_persist-set.result.changed)))

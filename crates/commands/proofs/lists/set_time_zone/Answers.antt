@@ -1,54 +1,41 @@
 -- `lists::set_time_zone` meets its contract.
-use mathlib.Core.Bool.{true}
-use mathlib.Core.Path.{◌≡◌, sym, ap, ◌∙◌}
-use native.Mathlib.Omega.{arith}
-use borrow.Author.Tests.{not-true, not-false}
-use lib.ListN.{length}
+use Rattle.std.proofs.Common.{sym, ap, ◌∙◌, arith, length}
 use Rattle.model.specs.Store as M
 use Rattle.model.specs.Store.{Store}
 use Rattle.model.specs.Handler as H
 use Rattle.table.specs.Left.{time_zone_left}
 use Rattle.table.proofs.Follows.{lengths_stay}
-use Rattle.image.specs.Layout.{is_image, table_in}
-use Rattle.image.specs.Parts.{has_lists}
+use Rattle.image.specs.Layout.{table_in}
 use Rattle.image.proofs.Outside.{image_is}
 use Rattle.image.proofs.Alone.{table_long}
 use Rattle.commands.specs.Calls.{zones_set}
 use Rattle.commands.specs.Taken.{zones_by}
-use Rattle.commands.proofs.Told.{no_image, no_store, on_table, table_put}
+use Rattle.commands.proofs.Told.{taken_up, not_taken_up, on_table, table_put}
 use Rattle.commands.proofs.lists.set_time_zone.Goals as goal
 
-pub returns-then-not-is_image : goal.returns-then-not-is_image
+pub returns-in-Err : goal.returns-in-Err
 unfolding zones_set H.set_time_zone
-returns-then-not-is_image c =
+returns-in-Err c =
     let a = c.args in
     let s = a.image.now in
-    no_image s (time_zone_left (table_in s) a.request.now (length a.out.now)) a.out.now a.used.now (λ (x : Store). M.set_time_zone x a.request.now)
-    (sym c.is_image.ensures ∙ not-true _ c.if-not-is_image.true-raw)
-
-pub returns-then-not-has_lists : goal.returns-then-not-has_lists
-unfolding zones_set H.set_time_zone
-returns-then-not-has_lists c =
-    let a = c.args in
-    let s = a.image.now in
-    no_store s (time_zone_left (table_in s) a.request.now (length a.out.now)) a.out.now a.used.now (λ (x : Store). M.set_time_zone x a.request.now)
-    (sym c.is_image.ensures ∙ not-false _ c.if-not-is_image.false-raw) (sym c.has_lists.ensures ∙ not-true _ c.if-not-has_lists.true-raw)
+    not_taken_up s (time_zone_left (table_in s) a.request.now (length a.out.now)) a.out.now a.used.now (λ (x : Store). M.set_time_zone x a.request.now)
+    c.in-Err.cause (sym c.check_lists.ensures ∙ c.in-Err.is) _ c.refusal.ensures
 
 pub slice_bounds-zones_set-end : goal.slice_bounds-zones_set-end
 slice_bounds-zones_set-end c =
-    let image : is_image c.args.image.now ≡ true = sym c.is_image.ensures ∙ not-false _ c.if-not-is_image.false-raw in
-    omega (arith, (image_is c.args.image.now image).size)
+    let s = c.args.image.now in
+    let up = taken_up s (sym c.check_lists.ensures ∙ c.in_default.is) in
+    omega (arith, (image_is s up.0).size)
 
 pub returns : goal.returns
 unfolding zones_set H.set_time_zone zones_by
 returns c =
-    let image : is_image c.args.image.now ≡ true = sym c.is_image.ensures ∙ not-false _ c.if-not-is_image.false-raw in
-    let lists : has_lists c.args.image.now ≡ true = sym c.has_lists.ensures ∙ not-false _ c.if-not-has_lists.false-raw in
     let a = c.args in
     let s = a.image.now in
     let b = a.request.now in
     let room = length a.out.now in
     let q = c.zones_set.ensures in
-    let p = on_table s (time_zone_left (table_in s) b room) a.out.now a.used.now (λ (x : Store). M.set_time_zone x b) image lists _ _ _ _ q in
-    let l = ap length q.1 ∙ (lengths_stay (table_in s) b room).time_zone ∙ table_long s image in
-    (p.0, table_put s _ image l ∙ p.1, p.2, p.3)
+    let up = taken_up s (sym c.check_lists.ensures ∙ c.in_default.is) in
+    let p = on_table s (time_zone_left (table_in s) b room) a.out.now a.used.now (λ (x : Store). M.set_time_zone x b) up.0 up.1 _ _ _ _ q in
+    let l = ap length q.1 ∙ (lengths_stay (table_in s) b room).time_zone ∙ table_long s up.0 in
+    (p.0, table_put s _ up.0 l ∙ p.1, p.2, p.3)

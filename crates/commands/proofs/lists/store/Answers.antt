@@ -13,6 +13,6 @@ unfolding record_of
 returns c =
     let t = c.args.table.now in
     let out = c.args.out.now in
-    let r = c.record-written.result in
-    let h = record_by_value t r c.requires.0 c.record-written.ensures in
+    let r = c.fill.new.made in
+    let h = record_by_value t r c.requires.0 c.fill.ensures in
     (c.copy.ensures ∙ copied_front out r.bytes 0 r.length (record_bytes (lists_in t)) (omega (arith, h.room)) (omega (arith, h.count, c.requires)) h.is, h.count)

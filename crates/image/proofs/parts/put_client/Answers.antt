@@ -1,14 +1,10 @@
 -- `image::parts::put_client` meets its contract.
 use mathlib.Core.Path.{◌∙◌}
 use Rattle.time_sync_client.specs.Meaning.{client_of}
-use Rattle.word.proofs.Places.{fitting}
 use Rattle.image.specs.Layout.{client_place}
 use Rattle.image.specs.Parts.{with_client}
 use Rattle.image.proofs.Written.{length_client, there, missing}
 use Rattle.image.proofs.parts.put_client.Goals as goal
-
-pub write_client-requires : goal.write_client-requires
-write_client-requires c = fitting 40 c.args.s.now client_place c.in_bounds.ensures c.if-in_bounds.true
 
 pub returns-then-in_bounds : goal.returns-then-in_bounds
 unfolding with_client

@@ -1,14 +1,10 @@
 -- `image::parts::put_rtc` meets its contract.
 use mathlib.Core.Path.{◌∙◌}
 use Rattle.rtc.specs.Meaning.{clock_of}
-use Rattle.word.proofs.Places.{fitting}
 use Rattle.image.specs.Layout.{clock_place}
 use Rattle.image.specs.Parts.{with_clock}
 use Rattle.image.proofs.Written.{length_clock, there, missing}
 use Rattle.image.proofs.parts.put_rtc.Goals as goal
-
-pub write_clock-requires : goal.write_clock-requires
-write_clock-requires c = fitting 40 c.args.s.now clock_place c.in_bounds.ensures c.if-in_bounds.true
 
 pub returns-then-in_bounds : goal.returns-then-in_bounds
 unfolding with_clock

@@ -1,14 +1,10 @@
 -- `image::parts::put_seen` meets its contract.
 use mathlib.Core.Path.{◌∙◌}
 use Rattle.transition_timer.specs.Meaning.{timer_of}
-use Rattle.word.proofs.Places.{fitting}
 use Rattle.image.specs.Layout.{timer_place}
 use Rattle.image.specs.Parts.{with_timer}
 use Rattle.image.proofs.Written.{length_timer, there, missing}
 use Rattle.image.proofs.parts.put_seen.Goals as goal
-
-pub write_timer-requires : goal.write_timer-requires
-write_timer-requires c = fitting 8 c.args.s.now timer_place c.in_bounds.ensures c.if-in_bounds.true
 
 pub returns-then-in_bounds : goal.returns-then-in_bounds
 unfolding with_timer

@@ -1,7 +1,5 @@
 -- `lookups::transitions::next_transition` meets its contract.
-use mathlib.Core.List.{◌++◌}
-use mathlib.Core.Path.{sym, ◌∙◌, ap}
-use Prim.Native.Nat.{ℕ}
+use Rattle.std.proofs.Common.{ℕ, ◌++◌, sym, ◌∙◌, ap}
 use Rattle.model.specs.Lookups.{next_transition, zone_starts, window_bounds}
 use Rattle.lookups.specs.Transitions.{soonest, moment_of}
 use Rattle.lookups.proofs.Soonest.{soonest_append, soonest_smallest}
@@ -12,9 +10,8 @@ pub returns : goal.returns
 unfolding next_transition
 returns c =
     let a = c.args in
-    let s = a.table.now in
-    let starts = zone_starts (zones_in s) in
-    let bounds = window_bounds (windows_in s) in
+    let starts = zone_starts (zones_in a.table.now) in
+    let bounds = window_bounds (windows_in a.table.now) in
     c.moment_of.ensures
     ∙ ap (λ (t : ℕ). moment_of t) (c.window_transition.ensures ∙ ap (λ (b : ℕ). soonest a.utc b bounds) c.zone_transition.ensures ∙ sym (soonest_append a.utc 0 starts bounds))
     ∙ soonest_smallest a.utc (starts ++ bounds)

@@ -1,11 +1,7 @@
 -- `lookups::transitions::walk` meets its contract: what was walked, before the walk that is left, is the whole walk.
-use Prim.Native.Nat.{◌≤◌, ◌-◌}
 use Rattle.lookups.proofs.Walked.{Sofar}
 use Rattle.table.specs.Layout.{lists_in}
 use Rattle.lookups.proofs.transitions.walk.Given as goal
 
 abbrev pub invariant-loop-steps : goal.invariant-loop-steps
-invariant-loop-steps l = (l.steps ≤ 40) × Sofar (lists_in l.table) 40 l.start l.moments l.steps l.at
-
-abbrev pub decreases-loop-steps : goal.decreases-loop-steps
-decreases-loop-steps l = 40 - l.steps
+invariant-loop-steps l = Sofar (lists_in l.table) 40 l.start l.moments l.steps l.at

@@ -1,25 +1,20 @@
 -- `readings::clock::local_time` meets its contract.
-use mathlib.Core.Path.{sym, ◌∙◌}
-use borrow.Author.Tests.{not-true, not-false}
-use Rattle.model.specs.Handler as H
-use Rattle.image.specs.Parts.{device_in}
-use Rattle.readings.proofs.Answered.{image_refused, image_read, refused_number, refused_leaves, same_number, same_leaves}
+use Rattle.std.proofs.Common.{◌≡◌, true, refl}
+use Rattle.model.specs.Answers as A
+use Rattle.image.specs.Layout.{is_image}
+use Rattle.readings.proofs.Answered.{local_time_is, mark_is, zero_is}
 use Rattle.readings.proofs.clock.local_time.Goals as goal
 
-pub returns-then-not-is_image : goal.returns-then-not-is_image
-returns-then-not-is_image c =
+pub returns-in-Ok : goal.returns-in-Ok
+returns-in-Ok c =
     let a = c.args in
-    let s = a.image.now in
-    let r = image_refused s (H.read_local_time (device_in s) a.tick) (sym c.is_image.ensures ∙ not-true _ c.if-not-is_image.true-raw) in
-    (refused_number r, refused_leaves r _ _, refused_leaves r _ _)
+    let i : is_image a.image.now ≡ true = cc in
+    let e = local_time_is a.image.now a.tick _ _ _ (A.answers c.in-Ok.local) i c.lists.ensures c.ok.ensures.value c.reading.ensures c.in-Ok.ensures in
+    rw e (refl, mark_is c.in-Ok.local c.is_some.result c.is_some.ensures, zero_is c.in-Ok.local c.unwrap_or.result c.unwrap_or.ensures)
 
-pub shown_at-shown-requires : goal.shown_at-shown-requires
-shown_at-shown-requires c = sym c.is_image.ensures ∙ not-false _ c.if-not-is_image.false-raw
-
-pub returns : goal.returns
-returns c =
+pub returns-in-Err : goal.returns-in-Err
+returns-in-Err c =
     let a = c.args in
-    let s = a.image.now in
-    let e = image_read s (H.read_local_time (device_in s) a.tick) (sym c.is_image.ensures ∙ not-false _ c.if-not-is_image.false-raw) ∙ sym c.shown_at-shown.ensures in
-    let p = c.put_local.ensures in
-    (same_number e _ p.0, same_leaves e _ _ _ p.1, same_leaves e _ _ _ p.2)
+    let i : is_image a.image.now ≡ true = cc in
+    let e = local_time_is a.image.now a.tick _ _ _ (A.refused c.in-Err.cause) i c.lists.ensures c.ok.ensures.value c.reading.ensures c.in-Err.ensures in
+    rw e (c.refused.ensures, refl, refl)

@@ -1,10 +1,5 @@
 -- `told::record` meets its contract.
-use mathlib.Core.Bool.{not}
-use mathlib.Core.Path.{refl, sym, ap, ◌∙◌}
-use Prim.Native.Nat.{◌≤◌}
-use native.Mathlib.Omega.{arith}
-use borrow.Author.Tests.{lt-ltb, le-ltb}
-use lib.ListN.{length}
+use Rattle.std.proofs.Common.{ℕ, Some, refl, ap, ◌∙◌, arith, lt-ltb, le-ltb, length}
 use Rattle.model.specs.Store.{record_of}
 use Rattle.table.specs.Layout.{store_in}
 use Rattle.word.proofs.Writes.{copied_front}
@@ -13,18 +8,17 @@ use Rattle.replay.proofs.told.record.Goals as goal
 
 pub returns-then-out-n : goal.returns-then-out-n
 returns-then-out-n c =
-    let a = c.args in
-    let s = a.table.now in
-    let h = record_by_value s c.record-written.result (omega arith) c.record-written.ensures in
-    (sym (ap not (lt-ltb (length a.out.now) (length (record_of (store_in s))) (omega (arith, h.count)))), refl, refl)
+    let s = c.args.table.now in
+    let h = record_by_value s c.fill.new.made (omega arith) c.fill.ensures in
+    rw (lt-ltb (length c.args.out.now) (length (record_of (store_in s))) (omega (arith, h.count))) (record { length = refl; copied = refl })
 
 pub returns : goal.returns
 returns c =
-    let a = c.args in
-    let s = a.table.now in
-    let h = record_by_value s c.record-written.result (omega arith) c.record-written.ensures in
-    let k : c.record-written.result.length ≤ length a.out.now = c.if-out-n.false in (
-      sym (ap not (le-ltb (length a.out.now) (length (record_of (store_in s))) (omega (arith, h.count)))),
-      c.copy.ensures ∙ copied_front a.out.now c.record-written.result.bytes 0 c.record-written.result.length (record_of (store_in s)) (omega (arith, h.room)) k h.is,
-      h.count,
-    )
+    let s = c.args.table.now in
+    let h = record_by_value s c.fill.new.made (omega arith) c.fill.ensures in
+    rw (le-ltb (length c.args.out.now) (length (record_of (store_in s))) (omega (arith, h.count))) (record {
+      length = ap (λ (n : ℕ). Some n) h.count;
+      copied =
+          c.copy.ensures
+          ∙ copied_front c.args.out.now c.fill.new.made.bytes 0 c.fill.new.made.length (record_of (store_in s)) (omega (arith, h.room)) c.if-out-n.false h.is;
+    })

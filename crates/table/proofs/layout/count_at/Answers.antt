@@ -14,4 +14,4 @@ overflow_cast-table c = omega (arith, c.type_inv.table c.args.at)
 pub returns : goal.returns
 returns c =
     let a = c.args in
-    c.least.ensures ∙ sym (count_whole a.at a.most a.table.now (omega arith))
+    c.min.ensures ∙ sym (count_whole a.at a.most a.table.now (omega arith))

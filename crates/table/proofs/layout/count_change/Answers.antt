@@ -10,4 +10,4 @@ pub returns : goal.returns
 unfolding counted
 returns c =
     let t = c.args.table.now in
-    c.put_u32.ensures.1 ∙ ap (λ (v : ℕ). placed t generation_place (bytes 4 v)) (c.wrapping_add_u32-next.ensures.value ∙ ap next_generation c.generation.ensures)
+    c.put_u32.ensures.1 ∙ ap (λ (v : ℕ). placed t generation_place (bytes 4 v)) (ap next_generation c.generation-next.ensures)

@@ -1,19 +1,7 @@
 -- `word::or_zero::u32_at` meets its contract.
-use mathlib.Core.Path.{sym, ◌∙◌}
-use Rattle.word.proofs.Places.{fitting, word_is, word_none}
+use Rattle.std.proofs.Common.{sym, ap, ◌∙◌, ℕ, Option, unwrap_or}
+use Rattle.word.proofs.Parts.{word_of_number}
 use Rattle.word.proofs.or_zero.u32_at.Goals as goal
 
-pub u32_at-requires : goal.u32_at-requires
-u32_at-requires c =
-    let a = c.args in
-    fitting 4 a.s.now a.at c.in_bounds.ensures c.if-in_bounds.true
-
-pub returns-then-in_bounds : goal.returns-then-in_bounds
-returns-then-in_bounds c =
-    let a = c.args in
-    c.u32_at.ensures ∙ sym (word_is 4 a.s.now a.at c.in_bounds.ensures c.if-in_bounds.true)
-
 pub returns : goal.returns
-returns c =
-    let a = c.args in
-    sym (word_none 4 a.s.now a.at c.in_bounds.ensures c.if-in_bounds.false)
+returns c = c.unwrap_or.ensures ∙ ap (λ (o : Option ℕ). unwrap_or o 0) c.u32_at.ensures ∙ sym (word_of_number 4 c.args.s.now c.args.at)

@@ -1,14 +1,11 @@
 -- `word::spelled::i32_of` meets its contract.
-use mathlib.Core.Path.{◌≡◌, ap, ◌∙◌}
-use Prim.Native.Nat.{ℕ}
-use borrow.Author.Rules.{rules}
-use mir.Syntax.{w32}
-use mir.Val.{to_z, of_z}
+use Rattle.std.proofs.Common.{◌≡◌, ap, ◌∙◌, rules, w32, to_z, of_z}
 use Rattle.model.specs.Bytes.{signed}
+use Rattle.word.proofs.Endian.{to_signed}
 use Rattle.word.proofs.spelled.i32_of.Goals as goal
 
 pub returns : goal.returns
 returns c =
-    let z = c.from_bits.result in
+    let z = c.cast_signed.result in
     let back : to_z w32 (of_z w32 z) ≡ z = search rules in
-    back ∙ c.from_bits.ensures ∙ ap (λ (n : ℕ). signed n) c.u32_of.ensures
+    back ∙ c.cast_signed.ensures ∙ to_signed _ ∙ ap signed c.u32_of.ensures

@@ -1,8 +1,7 @@
 -- `word::spelled::u32_of` meets its contract.
-use borrow.Author.Rules.{rules}
-use Rattle.model.specs.Bytes.{number}
+use Rattle.std.proofs.Common.{[], ◌∷◌, refl, ◌∙◌}
+use Rattle.word.proofs.Endian.{from_le}
 use Rattle.word.proofs.spelled.u32_of.Goals as goal
 
 pub returns : goal.returns
-unfolding number
-returns c = search rules
+returns c = c.from_le_bytes.ensures ∙ from_le 3 (c.args.a ∷ c.args.b ∷ c.args.c ∷ c.args.d ∷ []) refl

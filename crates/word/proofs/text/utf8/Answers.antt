@@ -1,7 +1,7 @@
--- `word::text::utf8` meets its contract: text of plain bytes is well formed.
-use mathlib.Core.Path.{sym}
-use Rattle.word.proofs.Plain.{plain_text}
+-- `word::text::utf8` meets its contract: bytes below 0x80 are well formed.
+use Rattle.std.proofs.Common.{sym, ◌∙◌}
+use Rattle.word.proofs.Rows.{ascii_text}
 use Rattle.word.proofs.text.utf8.Goals as goal
 
-pub returns-then-plain : goal.returns-then-plain
-returns-then-plain c = sym (plain_text _ (c.plain.ensures.0 c.if-plain.true))
+pub returns-then-is_ascii : goal.returns-then-is_ascii
+returns-then-is_ascii c = c.if-is_ascii.true ∙ sym (ascii_text c.args.s.now c.if-is_ascii.ensures.cases)

@@ -1,7 +1,0 @@
--- `readings::store::usable` meets its contract.
-use mathlib.Core.Path.{ap, ◌∙◌}
-use Rattle.model.specs.Output.{truth}
-use Rattle.readings.proofs.store.usable.Goals as goal
-
-pub returns : goal.returns
-returns c = c.bit.ensures ∙ ap truth c.dst_usable.ensures

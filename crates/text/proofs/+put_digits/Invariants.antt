@@ -1,5 +1,0 @@
--- `text::put_digits` ends: the front digits are those of a tenth of the number.
-use Rattle.text.proofs.+put_digits.Given as goal
-
-abbrev pub decreases-put_digits : goal.decreases-put_digits
-decreases-put_digits l = l.n
