@@ -7,6 +7,23 @@ ghost use Rattle.record.specs.Entries.{ReadAt};
 
 use crate::{DSTOffsetRead, NamePlace, TimeZoneRead};
 
+// Inside an entry: the start and the mark behind the offset. Where the mark is 0 the entry ends at END; behind it stand a window's end,
+// up to ENDED, or the length of a zone's name and the name.
+pub const START: usize = 4;
+
+pub const MARK: usize = 12;
+
+pub const END: usize = 13;
+
+pub const ENDED: usize = 21;
+
+pub const NAME_LENGTH: usize = 13;
+
+pub const NAME: usize = 14;
+
+// The longest name.
+pub const MOST_NAME: usize = 64;
+
 // An entry of a section, as it is read at a place.
 pub trait Entry: Copy {
     // What an entry stands for, and how one is read off the front of some bytes.
@@ -78,8 +95,8 @@ fn head_at(s: &[u8], at: usize) -> Option<Head>
     ensures { result ≡ head_at s.now at }
 {
     let offset = word::i32_at(s, at)?;
-    let start = word::u64_at(s, at + 4)?;
-    let mark = *s.get(at + 12)?;
+    let start = word::u64_at(s, at + START)?;
+    let mark = *s.get(at + MARK)?;
     Some(Head {
         offset,
         start,
@@ -105,10 +122,10 @@ pub fn time_zone_at(s: &[u8], at: usize) -> Option<TimeZoneRead>
             offset: head.offset,
             valid_at: head.start,
             name: None,
-            next: at + 13,
+            next: at + END,
         }),
         1 => {
-            let name = name_at(s, at + 13)?;
+            let name = name_at(s, at + NAME_LENGTH)?;
             Some(TimeZoneRead {
                 offset: head.offset,
                 valid_at: head.start,
@@ -130,15 +147,15 @@ pub fn dst_offset_at(s: &[u8], at: usize) -> Option<DSTOffsetRead>
             offset: head.offset,
             valid_starting: head.start,
             valid_until: None,
-            next: at + 13,
+            next: at + END,
         }),
         1 => {
-            let valid_until = word::u64_at(s, at + 13)?;
+            let valid_until = word::u64_at(s, at + END)?;
             Some(DSTOffsetRead {
                 offset: head.offset,
                 valid_starting: head.start,
                 valid_until: Some(valid_until),
-                next: at + 21,
+                next: at + ENDED,
             })
         }
         _ => None,
