@@ -56,7 +56,21 @@ impl Entry for TimeZoneRead {
     ghost next_of = { next_zone };
 
     fn read_at(s: &[u8], at: usize) -> Option<TimeZoneRead> {
-        time_zone_at(s, at)
+        let head = head_at(s, at)?;
+        let (name, next) = match head.mark {
+            0 => (None, at + END),
+            1 => {
+                let name = name_at(s, at + NAME_LENGTH)?;
+                (Some(name), name.at + name.len)
+            }
+            _ => return None,
+        };
+        Some(TimeZoneRead {
+            offset: head.offset,
+            valid_at: head.start,
+            name,
+            next,
+        })
     }
 
     fn next(&self) -> usize {
@@ -74,7 +88,18 @@ impl Entry for DSTOffsetRead {
     ghost next_of = { next_window };
 
     fn read_at(s: &[u8], at: usize) -> Option<DSTOffsetRead> {
-        dst_offset_at(s, at)
+        let head = head_at(s, at)?;
+        let (valid_until, next) = match head.mark {
+            0 => (None, at + END),
+            1 => (Some(word::u64_at(s, at + END)?), at + ENDED),
+            _ => return None,
+        };
+        Some(DSTOffsetRead {
+            offset: head.offset,
+            valid_starting: head.start,
+            valid_until,
+            next,
+        })
     }
 
     fn next(&self) -> usize {
@@ -94,12 +119,12 @@ struct Head {
 fn head_at(s: &[u8], at: usize) -> Option<Head>
     ensures { result ≡ head_at s.now at }
 {
-    let offset = word::i32_at(s, at)?;
-    let start = word::u64_at(s, at + START)?;
-    let mark = *s.get(at + MARK)?;
+    let (offset, rest) = s.get(at..)?.split_first_chunk()?;
+    let (start, rest) = rest.split_first_chunk()?;
+    let mark = *rest.first()?;
     Some(Head {
-        offset,
-        start,
+        offset: i32::from_le_bytes(*offset),
+        start: u64::from_le_bytes(*start),
         mark,
     })
 }
@@ -110,54 +135,4 @@ fn name_at(s: &[u8], at: usize) -> Option<NamePlace>
 {
     let len = *s.get(at)? as usize;
     word::text::utf8_at(s, at + 1, len).then_some(NamePlace { at: at + 1, len })
-}
-
-// The zone at `at`.
-pub fn time_zone_at(s: &[u8], at: usize) -> Option<TimeZoneRead>
-    ensures { result ≡ zone_at s.now at }
-{
-    let head = head_at(s, at)?;
-    match head.mark {
-        0 => Some(TimeZoneRead {
-            offset: head.offset,
-            valid_at: head.start,
-            name: None,
-            next: at + END,
-        }),
-        1 => {
-            let name = name_at(s, at + NAME_LENGTH)?;
-            Some(TimeZoneRead {
-                offset: head.offset,
-                valid_at: head.start,
-                name: Some(name),
-                next: name.at + name.len,
-            })
-        }
-        _ => None,
-    }
-}
-
-// The window at `at`.
-pub fn dst_offset_at(s: &[u8], at: usize) -> Option<DSTOffsetRead>
-    ensures { result ≡ window_at s.now at }
-{
-    let head = head_at(s, at)?;
-    match head.mark {
-        0 => Some(DSTOffsetRead {
-            offset: head.offset,
-            valid_starting: head.start,
-            valid_until: None,
-            next: at + END,
-        }),
-        1 => {
-            let valid_until = word::u64_at(s, at + END)?;
-            Some(DSTOffsetRead {
-                offset: head.offset,
-                valid_starting: head.start,
-                valid_until: Some(valid_until),
-                next: at + ENDED,
-            })
-        }
-        _ => None,
-    }
 }
