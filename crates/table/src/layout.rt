@@ -1,6 +1,6 @@
 // The places of a table, and its small numbers.
 ghost use Rattle.std.specs.Prelude.{◌≡◌, ◌<◌};
-ghost use Rattle.table.specs.Layout.{count_in, zone_count, window_count, zone_limit_in, window_limit_in, generation_in, counted, new_table};
+ghost use Rattle.table.specs.Layout.{count_in, zone_count, window_count, zone_places, window_places, zone_limit_in, window_limit_in, generation_in, counted, new_table};
 ghost use Rattle.table.specs.Limits.{rules_of};
 
 use crate::Limits;
@@ -74,6 +74,28 @@ pub fn window_count(table: &[u8]) -> usize
     ensures { result ≡ window_count table.now }
 {
     count_at(table, WINDOW_COUNT, MOST_WINDOWS)
+}
+
+// The places of the zones in use, in order.
+#[tactic(auto, using(crate::proofs::Places::zones_used, crate::proofs::Places::no_zones))]
+pub fn zones(table: &[u8]) -> &[[u8; ZONE_SIZE]]
+    ensures { result.now ≡ zone_places table.now }
+{
+    let Some(places) = table.get(ZONES..WINDOWS) else {
+        return &[];
+    };
+    &places.as_chunks().0[..zone_count(table)]
+}
+
+// The places of the windows in use, in order.
+#[tactic(auto, using(crate::proofs::Places::windows_used, crate::proofs::Places::no_windows))]
+pub fn windows(table: &[u8]) -> &[[u8; WINDOW_SIZE]]
+    ensures { result.now ≡ window_places table.now }
+{
+    let Some(places) = table.get(WINDOWS..SIZE) else {
+        return &[];
+    };
+    &places.as_chunks().0[..window_count(table)]
 }
 
 // How many zones the store takes.
