@@ -1,7 +1,9 @@
 // The places of a table, and its small numbers.
 ghost use Rattle.std.specs.Prelude.{◌≡◌, ◌<◌};
 ghost use Rattle.table.specs.Layout.{count_in, zone_count, window_count, zone_limit_in, window_limit_in, generation_in, counted, new_table};
+ghost use Rattle.table.specs.Limits.{rules_of};
 
+use crate::Limits;
 use word::or_zero::u8_at;
 
 // How many bytes a table has.
@@ -104,12 +106,12 @@ pub(crate) fn count_change(table: &mut [u8])
 }
 
 // Writes a new table with these limits: no zone, no window and generation 0; on a slice that is too short nothing is written.
-pub fn put_new(table: &mut [u8], zone_limit: u8, window_limit: u8)
-    ensures { table.new ≡ new_table table.old (record { zone_limit = zone_limit; window_limit = window_limit }) }
+pub fn put_new(table: &mut [u8], limits: Limits)
+    ensures { table.new ≡ new_table table.old (rules_of limits) }
 {
     if SIZE <= table.len() {
-        table[ZONE_LIMIT] = zone_limit;
-        table[WINDOW_LIMIT] = window_limit;
+        table[ZONE_LIMIT] = limits.zones;
+        table[WINDOW_LIMIT] = limits.windows;
         table[ZONE_COUNT..SIZE].fill(0);
     }
 }
