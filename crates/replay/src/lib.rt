@@ -13,15 +13,10 @@ ghost use Rattle.replay.specs.Replays.{name_told, moments_told, replayed, lent_a
 ghost use Rattle.replay.specs.Claim.{ReplayClaim};
 ghost use Rattle.replay.specs.Tables.{answered, by_value};
 
-use model::Refusal;
+use model::{Refusal, TAKEN};
 use table::layout::SIZE;
 use told::Outcome;
-
-// What is answered where all is told.
-const DONE: u64 = 0;
-
-// How many bytes a moment is written as.
-const MOMENT_SIZE: usize = 8;
+use word::WORD;
 
 // Every lookup in a table at a moment, the walk from another on, the record and the generation; tested for room before anything is written.
 fn answered(
@@ -40,7 +35,7 @@ fn answered(
 {
     let walk = lookups::transitions::walk(table, start);
     let walked = walk.walked();
-    if moments.len() < MOMENT_SIZE * walked.len() {
+    if moments.len() < WORD * walked.len() {
         return Err(Refusal::NoSpace);
     }
     let zone = lookups::zones::active_time_zone(table, at);
@@ -50,7 +45,7 @@ fn answered(
     let Some(stored) = told::record(table, out) else {
         return Err(Refusal::NoSpace);
     };
-    word::put_u64s(moments, walked, walked.len());
+    word::put_u64s(moments, walked);
     Ok(Outcome {
         steps: walk.steps,
         zone: zone.offset,
@@ -128,7 +123,7 @@ pub fn timesync_replay(
         name,
         out,
     ) {
-        Err(cause) => u8::from(cause) as u64,
+        Err(cause) => u64::from(cause),
         Ok(told) => {
             *steps = told.steps as u64;
             *zone = told.zone;
@@ -141,7 +136,7 @@ pub fn timesync_replay(
             *next = told.next.unwrap_or(0);
             *used = told.stored as u64;
             *generation = told.generation as u64;
-            DONE
+            TAKEN
         }
     }
 }
