@@ -1,4 +1,5 @@
--- What the answers of `Calls` mean for the calls of a history.
+-- What the answers of `Calls` mean for the calls of a history. Where it gives c, with s left before and rest after, s reads as (c, rest);
+-- where it gives none, s reads as none (`GivesCall`).
 use Rattle.std.specs.Prelude.{true, cond, ◌==◌, List, [], ◌∷◌, ◌≡◌, ℕ, ◌+◌, ◌≤◌, ◌<◌, length, drop, None, Some, is_some}
 use Rattle.model.specs.Basics.{run}
 use Rattle.model.specs.History.{Call}
