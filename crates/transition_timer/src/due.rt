@@ -33,8 +33,7 @@ pub fn empty_due(last: Option<Seen>, new: Seen) -> bool
 pub fn sleep_until(next: Option<u64>, now: u64) -> Sleep
     ensures { result ≡ sleep_by next now }
 {
-    match next {
-        None => Sleep::UntilWoken,
-        Some(t) => Sleep::AtMost(t.saturating_sub(now).saturating_add(MARGIN)),
-    }
+    next.map_or(Sleep::UntilWoken, |at| {
+        Sleep::AtMost(at.saturating_sub(now).saturating_add(MARGIN))
+    })
 }

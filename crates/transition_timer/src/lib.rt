@@ -7,7 +7,7 @@ pub mod looks;
 use lookups::ZoneShown;
 
 // What a look sees: the zone's offset, whether a window is active, and whether one is usable.
-#[derive(Clone, Copy)]
+#[derive(Clone, Copy, Default)]
 pub struct Seen {
     pub offset: i32,
     pub active: bool,

@@ -49,8 +49,8 @@ pub fn look(last: Option<Seen>, table: Option<&[u8]>, reading: UtcTime) -> Look
     let Some(table) = table else {
         return quiet(last, Sleep::Never);
     };
-    match reading {
-        UtcTime::Reliable(utc) => look_at(last, table, utc),
-        UtcTime::LastKnown(_) => quiet(last, Sleep::UntilWoken),
-    }
+    let Some(utc) = reading.reliable() else {
+        return quiet(last, Sleep::UntilWoken);
+    };
+    look_at(last, table, utc)
 }
