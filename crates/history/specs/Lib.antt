@@ -1,5 +1,5 @@
 -- What the contracts of `history` cite.
 pub mod Calls
-pub mod Places
+pub mod Shown
 pub mod Laws
 pub mod Examples

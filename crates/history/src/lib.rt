@@ -1,9 +1,9 @@
 // A history of calls on a store of time_zone lists, as bytes: the calls one after the other.
 #![tactic(auto)]
 
-ghost use Rattle.std.specs.Prelude.{◌≡◌, is_some};
-ghost use Rattle.history.specs.Calls.{call_with, read_calls};
-ghost use Rattle.history.specs.Places.{shown, placed, call_at};
+ghost use Rattle.std.specs.Prelude.{◌≡◌, ◌==◌, length, is_some, option_map};
+ghost use Rattle.history.specs.Calls.{read_sized, read_call, read_calls};
+ghost use Rattle.history.specs.Shown.{shown, left, GivesCall, calls_at_most};
 
 // A call with its argument, in the bytes that were read.
 #[derive(Clone, Copy)]
@@ -15,62 +15,74 @@ pub enum Call<'a> {
     FactoryReset,
 }
 
-// A call, and the place after it.
-#[derive(Clone, Copy)]
-pub struct CallRead<'a> {
-    pub call: Call<'a>,
-    pub next: usize,
+// A length in 4 bytes and so many bytes, and what follows them.
+#[tactic(auto, unfolding(crate::specs::Calls::read_sized, model::specs::Bytes::take_bytes))]
+fn sized(s: &[u8]) -> Option<(&[u8], &[u8])>
+    ensures { option_map (λ p. (p.0.now, p.1.now)) result ≡ read_sized s.now }
+{
+    let (size, rest) = s.split_first_chunk()?;
+    let len = u32::from_le_bytes(*size) as usize;
+    rest.split_at_checked(len)
 }
 
-// The call of a kind up to 4 with its argument; kinds 3 and 4 have none.
-#[tactic(auto, unfolding(crate::specs::Calls::call_with))]
-fn call_with(kind: u8, bytes: &[u8]) -> Call<'_>
-    ensures { shown result ≡ call_with kind bytes.now }
+// The call that the bytes begin with, by its kind, and what follows it.
+#[tactic(auto, unfolding(crate::specs::Calls::read_call, crate::specs::Calls::read_argument, crate::specs::Calls::call_with))]
+fn first(s: &[u8]) -> Option<(Call<'_>, &[u8])>
+    ensures { option_map (λ p. (shown p.0, p.1.now)) result ≡ read_call s.now }
 {
+    let (kind, rest) = s.split_first()?;
     match kind {
-        0 => Call::SetTimeZone(bytes),
-        1 => Call::SetDSTOffset(bytes),
-        2 => Call::Load(Some(bytes)),
-        3 => Call::Load(None),
-        _ => Call::FactoryReset,
+        0 => sized(rest).map(|(request, rest)| (Call::SetTimeZone(request), rest)),
+        1 => sized(rest).map(|(request, rest)| (Call::SetDSTOffset(request), rest)),
+        2 => sized(rest).map(|(stored, rest)| (Call::Load(Some(stored)), rest)),
+        3 => Some((Call::Load(None), rest)),
+        4 => Some((Call::FactoryReset, rest)),
+        _ => None,
     }
 }
 
-// The call at `at`.
-pub fn call_at(s: &[u8], at: usize) -> Option<CallRead<'_>>
-    ensures { placed result ≡ call_at s.now at }
-{
-    if s.len() <= at {
-        return None;
+// The calls that bytes read as, one after the other, up to where none stands.
+#[derive(Drop)]
+pub struct Calls<'a> {
+    rest: &'a [u8],
+}
+
+impl<'a> Calls<'a> {
+    pub fn new(s: &'a [u8]) -> Calls<'a>
+        ensures { left result ≡ s.now }
+    {
+        Calls { rest: s }
     }
-    let kind = s[at];
-    if 4 < kind {
-        return None;
+
+    // Whether nothing is left over.
+    pub fn ended(&self) -> bool
+        ensures { result ≡ (length (left self.now) == 0) }
+    {
+        self.rest.is_empty()
     }
-    if 2 < kind {
-        return Some(CallRead {
-            call: call_with(kind, &[]),
-            next: at + 1,
-        });
+}
+
+impl<'a> Iterator for Calls<'a> {
+    type Item = Call<'a>;
+
+    ghost next_gives = { GivesCall };
+
+    ghost remaining = { calls_at_most };
+
+    #[tactic(auto, using(crate::proofs::Reading::shorter))]
+    fn next(&mut self) -> Option<Call<'a>> {
+        let (call, rest) = first(self.rest)?;
+        self.rest = rest;
+        Some(call)
     }
-    let len = word::u32_at(s, at + 1)? as usize;
-    if !word::in_bounds(s, at + 5, len) {
-        return None;
-    }
-    let next = at + 5 + len;
-    Some(CallRead {
-        call: call_with(kind, &s[at + 5..next]),
-        next,
-    })
 }
 
 // Whether s is calls one after the other, with nothing left over.
+#[tactic(auto, using(crate::proofs::Reading::history_on, crate::proofs::Reading::history_stops))]
 pub fn is_history(s: &[u8]) -> bool
     ensures { result ≡ is_some (read_calls s.now) }
 {
-    let mut at = 0;
-    while let Some(read) = call_at(s, at) {
-        at = read.next;
-    }
-    at == s.len()
+    let mut calls = Calls::new(s);
+    while calls.next().is_some() {}
+    calls.ended()
 }

@@ -1,13 +1,6 @@
 -- What a run answers, by its causes; and demand 3 about what it answered.
-use Rattle.std.specs.Prelude.{Option, None, Some, Result, Ok, Err, is_some}
-use mathlib.Core.Bool.{true, false}
-use mathlib.Core.List.{List}
-use mathlib.Core.Path.{◌≡◌, refl, sym, ap, ◌∙◌}
-use Prim.Native.Nat.{ℕ, suc, ◌*◌, ◌≤◌, ◌<◌}
-use native.Mathlib.Omega.{arith}
-use borrow.Author.Tests.{lt-ltb, le-ltb}
-use lib.ListN.{length, take, drop}
-use lib.Seq.{take-append_seam, take_at}
+use Rattle.std.proofs.Common.{Option, None, Some, Result, Ok, Err, is_some, true, false, List, ◌≡◌, refl, sym, ap, ◌∙◌, ℕ, suc, ◌*◌, ◌≤◌, ◌<◌, arith, lt-ltb, le-ltb, length, take, drop, take_at}
+use Rattle.std.proofs.Math.Seq.{take-append_seam}
 use Rattle.model.specs.declared.Refusal.{Refusal}
 use Rattle.model.specs.declared.Refusal.TheVariants.{Unreadable, BadLimits, NoSpace}
 use Rattle.model.specs.Answers.{Answer, refused, answers, number_of}
@@ -34,7 +27,7 @@ use Rattle.word.proofs.Writes.{length_numbers}
 
 none_read : (o : Option (List Call)) → is_some o ≡ false → o ≡ None
 none_read None h = refl
-none_read (Some calls) h = let z : true ≡ false = h in let k : ◌≡◌ {A = ℕ} 0 1 = cc in absurd (omega arith)
+none_read (Some calls) h = cc
 
 module _ (r : Rules) (history : List ℕ) (start at m n o : ℕ) where
   pub replayed_bad : allowed r ≡ false → replayed r history start at m n o ≡ refused BadLimits
@@ -60,14 +53,14 @@ module _ (s : List ℕ) (r : Rules) (h : table_size ≤ length s) (v : Result (U
       by_test (allowed r) (λ t. t)
       (λ t.
       let q : v ≡ Err BadLimits = e ∙ sym (none_made s r (not_allowed s r t)).0 in
-      let z : ◌≡◌ {A = ℕ} 0 1 = cc in absurd (omega arith))
+      cc)
 
   pub limits_bad : (cause : Refusal) → v ≡ Err cause → (allowed r ≡ false) × (cause ≡ BadLimits)
   limits_bad cause k =
       by_test (allowed r)
       (λ t.
       let q : v ≡ (Ok tt) = e ∙ sym (one_made s r (new_table s r) (is_made s r h t) refl).0 in
-      let z : ◌≡◌ {A = ℕ} 0 1 = cc in absurd (omega arith))
+      (cc, cc))
       (λ t.
       let q : v ≡ Err BadLimits = e ∙ sym (none_made s r (not_allowed s r t)).0 in
       (t, cc))

@@ -1,13 +1,5 @@
 -- The calls of a history leave in a table the list store that the model's calls leave.
-use Rattle.std.specs.Prelude.{Option, None, Some}
-use mathlib.Core.Bool.{Bool, true, false, cond}
-use mathlib.Core.List.{List, [], ◌∷◌}
-use mathlib.Core.Path.{◌≡◌, refl, ap, ◌∙◌}
-use Prim.Native.Nat.{ℕ, zero, suc, ◌≤◌, ◌<◌}
-use native.Mathlib.Omega.{arith}
-use borrow.Author.Tests.{ltb-true, ltb-false, le-ltb}
-use lib.Dec.{ltb}
-use lib.ListN.{length, take, drop, take-append-drop}
+use Rattle.std.proofs.Common.{Option, None, Some, Bool, true, false, cond, List, [], ◌∷◌, ◌≡◌, refl, ap, ◌∙◌, ℕ, zero, suc, ◌≤◌, ◌<◌, arith, le-ltb, length, take, drop, take-append-drop}
 use Rattle.model.specs.Basics.{All, run}
 use Rattle.model.specs.Bytes.{record_bytes, record_most, read_windows}
 use Rattle.model.specs.History.{Call, SetTimeZone, SetDSTOffset, Load, FactoryReset, windows_verdict, verdict, if_accepted, after}
@@ -16,10 +8,9 @@ use Rattle.model.specs.Output.{stored_by, lacks_room, no_space, store_after_size
 use Rattle.model.specs.RoundTrip.{AreBytes, CallBytes}
 use Rattle.model.specs.Rules.{Rules, allowed, Verdict, accepted, turned_down}
 use Rattle.model.specs.Store.{Store, changed_by, time_zone_set, set_time_zone, windows_tested, windows_read, set_dst_offset, load, store_after, store_from}
-use Rattle.model.proofs.Facts.{by_test, All-left, All-right}
-use Rattle.history.specs.Calls.{call_with, read_calls_by, read_calls}
-use Rattle.history.specs.Places.{call_of}
-use Rattle.history.proofs.Reading.{first_call, no_calls}
+use Rattle.model.proofs.Facts.{All-left, All-right}
+use Rattle.history.specs.Calls.{call_with, read_calls}
+use Rattle.history.proofs.Reading.{first_call}
 use Rattle.table.specs.Layout.{table_size, rules_in, lists_in, store_in, new_table}
 use Rattle.table.specs.Left.{time_zone_left, dst_offset_left}
 use Rattle.table.proofs.Bounds.{record_most_lem}
@@ -40,7 +31,7 @@ module _ (t : Store) (b : List ℕ) where
   windows_taken_lem e = go (read_windows b) e
     where
       go : (o : Option (List Window)) → windows_verdict t.rules o ≡ accepted → (windows_read t b o).state ≡ changed_by t (SetDSTOffset b)
-      go None v = let z : ◌≡◌ {A = ℕ} 0 1 = cc in absurd (omega arith)
+      go None v = cc
       go (Some ws) v = ap (λ (w : Verdict). (windows_tested t b w).state) v
 
 -- of a call that stores the record of the lists that it leaves
@@ -114,11 +105,11 @@ through_follows t (c ∷ calls) h k =
 
 -- ## The arguments of a history's calls are bytes
 
+rest_bytes : (s : List ℕ) (n : ℕ) → AreBytes s → AreBytes (drop n s)
+rest_bytes s n h = All-right (λ (x : ℕ). x < 256) (take n s) (drop n s) (rw (take-append-drop n s) h)
+
 part_bytes : (s : List ℕ) (from n : ℕ) → AreBytes s → AreBytes (take n (drop from s))
-part_bytes s from n h =
-    let b : ℕ → Type 0 = λ x. x < 256 in
-    let d : AreBytes (drop from s) = All-right b (take from s) (drop from s) (rw (take-append-drop from s) h) in
-    All-left b (take n (drop from s)) (drop n (drop from s)) (rw (take-append-drop n (drop from s)) d)
+part_bytes s from n h = All-left (λ (x : ℕ). x < 256) (take n (drop from s)) (drop n (drop from s)) (rw (take-append-drop n (drop from s)) (rest_bytes s from h))
 
 call_bytes : (k : ℕ) (b : List ℕ) → AreBytes b → CallBytes (call_with k b)
 unfolding call_with
@@ -128,25 +119,12 @@ call_bytes (suc (suc zero)) b h = h
 call_bytes (suc (suc (suc zero))) b h = tt
 call_bytes (suc (suc (suc (suc k)))) b h = tt
 
-module _ (s : List ℕ) (h : AreBytes s) where
-  calls_bytes : (calls : List Call) (at n : ℕ) → read_calls_by n (drop at s) ≡ Some calls → All CallBytes calls
-  calls_bytes [] at n e = tt
-  calls_bytes (c ∷ calls) at n e =
-      by_test (ltb at (length s))
-      (λ t.
-      let f = first_call s at n (c ∷ calls) (ltb-true at (length s) t) e in
-      let q = f.calls in
-      let k = f.there in
-      let first : c ≡ call_of s k.k k.from k.len = cc in
-      let others : f.others ≡ calls = cc in
-      (rw first (call_bytes k.k (take k.len (drop k.from s)) (part_bytes s k.from k.len h)), calls_bytes calls f.next f.fuel (rw others at f.rest)))
-      (λ t.
-      let q = no_calls s at n (c ∷ calls) (ltb-false at (length s) t) e in
-      let z : ◌≡◌ {A = ℕ} 0 1 = cc in absurd (omega arith))
-
-  history_bytes : (calls : List Call) → read_calls s ≡ Some calls → All CallBytes calls
-  unfolding read_calls
-  history_bytes calls e = calls_bytes calls 0 (length s) e
+calls_bytes : (calls : List Call) (s : List ℕ) → AreBytes s → read_calls s ≡ Some calls → All CallBytes calls
+calls_bytes [] s h e = tt
+calls_bytes (c ∷ calls) s h e =
+    let f = first_call s c calls e in
+    let t = f.there in
+    (rw t.call (call_bytes t.k (take t.len (drop t.from s)) (part_bytes s t.from t.len h)), calls_bytes calls f.rest (rw t.follows (rest_bytes s t.size h)) f.others)
 
 -- ## A history on a new table
 
@@ -154,5 +132,5 @@ pub run_follows : (s : List ℕ) (r : Rules) (history : List ℕ) (calls : List 
     → store_in (table_through (new_table s r) calls) ≡ store_from (new_store r) calls
 run_follows s r history calls h a b e =
     let n = new_follows s r h a in
-    through_follows (new_table s r) calls (omega (arith, n.long)) (history_bytes history b calls e)
+    through_follows (new_table s r) calls (omega (arith, n.long)) (calls_bytes calls history b e)
     ∙ ap (λ (t : Store). store_from t calls) n.store

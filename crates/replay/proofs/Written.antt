@@ -3,8 +3,9 @@ use Rattle.std.proofs.Common.{Option, None, Some, IfSome, List, ◌≡◌, refl,
 use Rattle.model.specs.Lookups.{ZoneNow, active_zone}
 use Rattle.model.specs.Output.{copied_over, moments_bytes, name_or}
 use Rattle.model.specs.Walk as W
-use Rattle.word.specs.Place.{copied, with_numbers}
-use Rattle.word.proofs.Writes.{numbers_there, put_front, copied_front}
+use Rattle.word.specs.Place.{copied, placed}
+use Rattle.word.proofs.Places.{placed_there}
+use Rattle.word.proofs.Writes.{length_numbers, put_front, copied_front}
 use Rattle.lookups.specs.declared.NamePlace.{NamePlace}
 use Rattle.lookups.specs.declared.Walk as O
 use Rattle.lookups.specs.declared.ZoneShown.{ZoneShown}
@@ -34,10 +35,8 @@ walked_lem {t} {start} {w} {ns} e q =
     record { few = omega (arith, h.few); steps = h.steps; is = k ∙ h.held; long = omega (arith, h.long) }
 
 -- moments written to the front of a slice that has room
-pub moments_put : (slice ns out : List ℕ) → 8 * length ns ≤ length slice → out ≡ with_numbers slice ns (length ns) → out ≡ copied_over (moments_bytes ns) slice
-moments_put slice ns out h e =
-    e ∙ numbers_there slice ns (length ns) (omega arith) h ∙ put_front slice (moments_bytes (take (length ns) ns))
-    ∙ ap (λ (ms : List ℕ). copied_over (moments_bytes ms) slice) (take_all (length ns) ns (omega arith))
+pub moments_put : (slice ns out : List ℕ) → 8 * length ns ≤ length slice → out ≡ placed slice 0 (moments_bytes ns) → out ≡ copied_over (moments_bytes ns) slice
+moments_put slice ns out h e = e ∙ placed_there slice 0 (moments_bytes ns) (omega (arith, length_numbers ns)) ∙ put_front slice (moments_bytes ns)
 
 -- ## The name of a zone
 

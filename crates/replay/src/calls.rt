@@ -1,24 +1,22 @@
 // The calls of a history, one after the other on a table.
 ghost use Rattle.std.specs.Prelude.{◌≡◌};
-ghost use Rattle.history.specs.Places.{shown};
+ghost use Rattle.history.specs.Shown.{shown};
 ghost use Rattle.replay.specs.Tables.{table_next, Runs};
 
-use history::Call;
-
-// How many bytes the largest record has.
-const RECORD_MAX: usize = 962;
+use history::{Call, Calls};
+use record::MOST_BYTES;
 
 // One call on a table.
 #[tactic(auto, unfolding(crate::specs::Tables::table_next))]
-fn next(table: &mut [u8], call: Call<'_>)
+fn apply(table: &mut [u8], call: Call<'_>)
     ensures { table.new ≡ table_next table.old (shown call.entry) }
 {
     match call {
         Call::SetTimeZone(request) => {
-            let _ = table::set_time_zone(table, request, RECORD_MAX);
+            let _ = table::set_time_zone(table, request, MOST_BYTES);
         }
         Call::SetDSTOffset(request) => {
-            let _ = table::set_dst_offset(table, request, RECORD_MAX);
+            let _ = table::set_dst_offset(table, request, MOST_BYTES);
         }
         Call::Load(Some(stored)) => {
             let _ = table::load(table, stored);
@@ -32,9 +30,7 @@ fn next(table: &mut [u8], call: Call<'_>)
 pub(crate) fn through(table: &mut [u8], history: &[u8])
     ensures { Runs table.old history.now table.new }
 {
-    let mut at = 0;
-    while let Some(read) = history::call_at(history, at) {
-        next(table, read.call);
-        at = read.next;
+    for call in Calls::new(history) {
+        apply(table, call);
     }
 }

@@ -9,19 +9,15 @@ ghost use Rattle.std.specs.Prelude.{◌≡◌, ◌≤◌, length};
 ghost use Rattle.model.specs.Answers.{number_of};
 ghost use Rattle.model.specs.Output.{leaves_copy};
 ghost use Rattle.table.specs.Layout.{table_size};
-ghost use Rattle.replay.specs.Replays.{name_told, moments_told, replayed, lent_after};
+ghost use Rattle.model.specs.Rules.{Rules};
+ghost use Rattle.replay.specs.Replays.{Lent, name_told, moments_told, replayed, lent_after};
 ghost use Rattle.replay.specs.Claim.{ReplayClaim};
 ghost use Rattle.replay.specs.Tables.{answered, by_value};
 
-use model::Refusal;
+use model::{Refusal, TAKEN};
 use table::layout::SIZE;
 use told::Outcome;
-
-// What is answered where all is told.
-const DONE: u64 = 0;
-
-// How many bytes a moment is written as.
-const MOMENT_SIZE: usize = 8;
+use word::WORD;
 
 // Every lookup in a table at a moment, the walk from another on, the record and the generation; tested for room before anything is written.
 fn answered(
@@ -33,14 +29,16 @@ fn answered(
     out: &mut [u8],
 ) -> Result<Outcome, Refusal>
     requires { table_size ≤ length table.now }
-    ensures value { result ≡ by_value (answered table.now start at (length moments.old) (length name.old) (length out.old)) }
-    ensures walked { moments.new ≡ leaves_copy (answered table.now start at (length moments.old) (length name.old) (length out.old)) moments_told moments.old }
-    ensures named { name.new ≡ leaves_copy (answered table.now start at (length moments.old) (length name.old) (length out.old)) name_told name.old }
-    ensures stored { out.new ≡ leaves_copy (answered table.now start at (length moments.old) (length name.old) (length out.old)) (λ p. p.stored) out.old }
+    ensures { let told = answered table.now start at (length moments.old) (length name.old) (length out.old) in record {
+      value : result ≡ by_value told;
+      walked : moments.new ≡ leaves_copy told moments_told moments.old;
+      named : name.new ≡ leaves_copy told name_told name.old;
+      stored : out.new ≡ leaves_copy told (λ p. p.stored) out.old;
+    } }
 {
     let walk = lookups::transitions::walk(table, start);
     let walked = walk.walked();
-    if moments.len() < MOMENT_SIZE * walked.len() {
+    if moments.len() < WORD * walked.len() {
         return Err(Refusal::NoSpace);
     }
     let zone = lookups::zones::active_time_zone(table, at);
@@ -50,7 +48,7 @@ fn answered(
     let Some(stored) = told::record(table, out) else {
         return Err(Refusal::NoSpace);
     };
-    word::put_u64s(moments, walked, walked.len());
+    word::put_u64s(moments, walked);
     Ok(Outcome {
         steps: walk.steps,
         zone: zone.offset,
@@ -74,10 +72,13 @@ fn replayed(
     name: &mut [u8],
     out: &mut [u8],
 ) -> Result<Outcome, Refusal>
-    ensures value { result ≡ by_value (replayed (record { zone_limit = zone_limit; window_limit = window_limit }) history.now start at (length moments.old) (length name.old) (length out.old)) }
-    ensures walked { moments.new ≡ leaves_copy (replayed (record { zone_limit = zone_limit; window_limit = window_limit }) history.now start at (length moments.old) (length name.old) (length out.old)) moments_told moments.old }
-    ensures named { name.new ≡ leaves_copy (replayed (record { zone_limit = zone_limit; window_limit = window_limit }) history.now start at (length moments.old) (length name.old) (length out.old)) name_told name.old }
-    ensures stored { out.new ≡ leaves_copy (replayed (record { zone_limit = zone_limit; window_limit = window_limit }) history.now start at (length moments.old) (length name.old) (length out.old)) (λ p. p.stored) out.old }
+    ensures { let rules : Rules = record { zone_limit = zone_limit; window_limit = window_limit } in
+        let told = replayed rules history.now start at (length moments.old) (length name.old) (length out.old) in record {
+          value : result ≡ by_value told;
+          walked : moments.new ≡ leaves_copy told moments_told moments.old;
+          named : name.new ≡ leaves_copy told name_told name.old;
+          stored : out.new ≡ leaves_copy told (λ p. p.stored) out.old;
+        } }
 {
     let mut table = [0u8; SIZE];
     table::new(&mut table, zone_limit, window_limit)?;
@@ -111,12 +112,60 @@ pub fn timesync_replay(
     used: &mut u64,
     generation: &mut u64,
 ) -> u64
-    ensures number { result ≡ number_of (replayed (record { zone_limit = zone_limit; window_limit = window_limit }) history.now start at (length moments.old) (length name.old) (length out.old)) }
-    ensures outputs { record { moments = moments.new; steps = steps.new; name = name.new; zone = zone.new; named = named.new; name_used = name_used.new; active = active.new; window = window.new; usable = usable.new; has_next = has_next.new; next = next.new; out = out.new; used = used.new; generation = generation.new }
-        ≡ lent_after (replayed (record { zone_limit = zone_limit; window_limit = window_limit }) history.now start at (length moments.old) (length name.old) (length out.old))
-        (record { moments = moments.old; steps = steps.old; name = name.old; zone = zone.old; named = named.old; name_used = name_used.old; active = active.old; window = window.old; usable = usable.old; has_next = has_next.old; next = next.old; out = out.old; used = used.old; generation = generation.old }) }
-    ensures claim { ReplayClaim (record { zone_limit = zone_limit; window_limit = window_limit }) history.now start at result
-        (record { moments = moments.new; steps = steps.new; name = name.new; zone = zone.new; named = named.new; name_used = name_used.new; active = active.new; window = window.new; usable = usable.new; has_next = has_next.new; next = next.new; out = out.new; used = used.new; generation = generation.new }) }
+    ensures number { let rules : Rules = record { zone_limit = zone_limit; window_limit = window_limit } in
+        result ≡ number_of (replayed rules history.now start at (length moments.old) (length name.old) (length out.old)) }
+    ensures outputs { let rules : Rules = record { zone_limit = zone_limit; window_limit = window_limit } in
+        let before : Lent = record {
+          moments = moments.old;
+          steps = steps.old;
+          name = name.old;
+          zone = zone.old;
+          named = named.old;
+          name_used = name_used.old;
+          active = active.old;
+          window = window.old;
+          usable = usable.old;
+          has_next = has_next.old;
+          next = next.old;
+          out = out.old;
+          used = used.old;
+          generation = generation.old;
+        } in
+        let after : Lent = record {
+          moments = moments.new;
+          steps = steps.new;
+          name = name.new;
+          zone = zone.new;
+          named = named.new;
+          name_used = name_used.new;
+          active = active.new;
+          window = window.new;
+          usable = usable.new;
+          has_next = has_next.new;
+          next = next.new;
+          out = out.new;
+          used = used.new;
+          generation = generation.new;
+        } in
+        after ≡ lent_after (replayed rules history.now start at (length moments.old) (length name.old) (length out.old)) before }
+    ensures claim { let rules : Rules = record { zone_limit = zone_limit; window_limit = window_limit } in
+        let after : Lent = record {
+          moments = moments.new;
+          steps = steps.new;
+          name = name.new;
+          zone = zone.new;
+          named = named.new;
+          name_used = name_used.new;
+          active = active.new;
+          window = window.new;
+          usable = usable.new;
+          has_next = has_next.new;
+          next = next.new;
+          out = out.new;
+          used = used.new;
+          generation = generation.new;
+        } in
+        ReplayClaim rules history.now start at result after }
 {
     match replayed(
         zone_limit,
@@ -128,7 +177,7 @@ pub fn timesync_replay(
         name,
         out,
     ) {
-        Err(cause) => u8::from(cause) as u64,
+        Err(cause) => u64::from(cause),
         Ok(told) => {
             *steps = told.steps as u64;
             *zone = told.zone;
@@ -141,7 +190,7 @@ pub fn timesync_replay(
             *next = told.next.unwrap_or(0);
             *used = told.stored as u64;
             *generation = told.generation as u64;
-            DONE
+            TAKEN
         }
     }
 }

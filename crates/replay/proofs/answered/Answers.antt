@@ -52,7 +52,7 @@ returns c =
     (record {
       value = outcome_parts w.steps (back ∙ ap (λ (x : ZoneNow). x.offset) z.is) (c.name.ensures.length ∙ ap (λ (x : ZoneNow). option_map length x.name) z.is) c.active_dst_offset.ensures
           c.dst_usable.ensures c.next_transition.ensures fits.1 c.generation.ensures;
-      walked = moments_put a.moments.now c.walked-walked.result.now _ (omega (arith, w.long)) c.put_u64s.ensures ∙ ap (λ (ms : List ℕ). copied_over (moments_bytes ms) a.moments.now) w.is;
+      walked = moments_put a.moments.now c.walked-walked.result.now _ (omega (arith, w.long)) c.put_u64s.ensures.1 ∙ ap (λ (ms : List ℕ). copied_over (moments_bytes ms) a.moments.now) w.is;
       named = c.name.ensures.copied ∙ ap (λ (x : ZoneNow). copied_over (name_or x.name) a.name.now) z.is;
       stored = c.record.ensures.copied ∙ rw fits.0;
     })

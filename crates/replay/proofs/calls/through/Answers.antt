@@ -1,30 +1,26 @@
 -- `calls::through` meets its contract.
-use Rattle.std.proofs.Common.{Option, Some, is_some, List, ◌≡◌, sym, ap, ◌∙◌, arith}
+use Rattle.std.proofs.Common.{Option, Some, is_some, List, ◌≡◌, sym, ap, ◌∙◌}
 use Rattle.model.specs.History.{Call}
 use Rattle.history.specs.Calls.{read_calls}
-use Rattle.history.specs.Places.{placed}
-use Rattle.history.proofs.Reading.{call_there, fold_laws}
+use Rattle.history.proofs.Reading.{fold_laws}
+use Rattle.history.specs.Shown.{left}
 use Rattle.replay.specs.Tables.{table_next, table_through}
 use Rattle.replay.proofs.calls.through.Goals as goal
 
 same_calls : (o : Option (List Call)) (calls others : List Call) → o ≡ Some calls → o ≡ Some others → calls ≡ others
 same_calls o calls others e f = cc
 
-pub loop-read-init : goal.loop-read-init
-loop-read-init c = (fold_laws table_next c.args.table.now c.args.history.now).begins
+pub loop-call-init : goal.loop-call-init
+loop-call-init c = λ h.
+    let whole : left c.into_iter-call-iterator.result ≡ c.args.history.now = cc in
+    rw whole ((fold_laws table_next c.args.table.now c.args.history.now).begins h)
 
-pub loop-read-smaller : goal.loop-read-smaller
-loop-read-smaller c =
-    let t = call_there c.args.history.now c.loop-read.at _ _ (sym c.call_at.ensures ∙ ap placed c.in-Some.is) in
-    omega (arith, t.onward, t.within)
-
-pub loop-read-preserved : goal.loop-read-preserved
-loop-read-preserved c = λ h.
-    (fold_laws table_next c.args.table.now c.args.history.now).goes_on_lem c.loop-read.at c.loop-read.table (c.loop-read.invariant h) _ _
-    (sym c.call_at.ensures ∙ ap placed c.in-Some.is) c.next.new.table c.next.ensures
+pub loop-call-preserved : goal.loop-call-preserved
+loop-call-preserved c = λ h.
+    (fold_laws table_next c.args.table.now c.args.history.now).goes_on_lem _ c.loop-call.table (c.loop-call.invariant h) _ _ c.in-Some.ensures.steps c.apply.new.table c.apply.ensures
 
 pub returns : goal.returns
 returns c = λ calls h.
-    let f = c.loop-read.invariant (ap is_some h) in
-    sym ((fold_laws table_next c.args.table.now c.args.history.now).stops c.loop-read.at c.loop-read.table f (sym c.call_at.ensures ∙ ap placed c.in_default.is))
+    let f = c.loop-call.invariant (ap is_some h) in
+    sym ((fold_laws table_next c.args.table.now c.args.history.now).stops _ c.loop-call.table f c.in-None.ensures.steps.0)
     ∙ ap (table_through c.args.table.now) (same_calls (read_calls c.args.history.now) f.calls calls f.read h)
