@@ -3,7 +3,7 @@ ghost use Rattle.std.specs.Prelude.{◌<◌, ◌≤◌, length, IfSome};
 
 use crate::reader::Reader;
 use model::{TimeGranularity, TimeSource};
-use rtc::{Rtc, SourceStored, TrustedTimeSource, UtcTime};
+use rtc::{Rtc, SourceChange, TrustedTimeSource, UtcTime};
 use std::io::Result;
 
 // A setting, with the numbers of its granularity and its time source. Where it persists, its moment is stored if it is a day or more from
@@ -159,13 +159,13 @@ fn told_setting(rt: &impl Print, changed: bool) -> Result<()> {
 
 // A trusted time source is installed, or cleared.
 fn trust(rt: &impl Print, rtc: &mut Rtc, source: Option<TrustedTimeSource>) -> Result<()> {
-    match rtc_lent::set_trusted_time_source_persist(rtc, source) {
-        SourceStored::Same => print!(rt; "same source"),
-        SourceStored::Stored(new) => {
+    match rtc_lent::set_trusted_time_source(rtc, source) {
+        SourceChange::Same => print!(rt; "same source"),
+        SourceChange::Installed(new) => {
             print!(rt; "stored source")?;
             told_source(rt, new)
         }
-        SourceStored::Removed => print!(rt; "removed source"),
+        SourceChange::Cleared => print!(rt; "removed source"),
     }
 }
 

@@ -1,12 +1,13 @@
 // What a device answers to a script: a new image with a list store of limits 2 and 2, and entry points called one after the other.
 ghost use Rattle.std.specs.Prelude.{◌<◌, length, IfSome};
 
+use crate::listing;
 use crate::reader::Reader;
-use crate::{RECORD_MAX, listing};
 use controller::attributes::timesync_local_time;
 use controller::clock::{timesync_new, timesync_set_trusted_time_source, timesync_set_utc_time};
 use controller::lists::{timesync_load_lists, timesync_set_dst_offset, timesync_set_time_zone};
 use image::place::SIZE;
+use record::MOST_BYTES;
 use std::io::Result;
 use word::or_zero::put_u8;
 
@@ -79,7 +80,7 @@ impl<'a> Step<'a> {
 
     // Calls the entry point, and writes what it answers.
     fn run(self, rt: &impl Print, image: &mut [u8]) -> Result<()> {
-        let mut record = [0u8; RECORD_MAX];
+        let mut record = [0u8; MOST_BYTES];
         let mut used: u64 = 0;
         let returned = match self {
             Step::UtcTime {

@@ -1,9 +1,9 @@
 // What a device answers about its lists: how many entries are listed, and one of them. Each output of an entry point is a variable of its
 // own, as C wants it.
-use crate::NAME_MAX;
 use crate::device::told;
 use controller::attributes::{timesync_dst_offset_count, timesync_time_zone_count};
 use controller::entries::{timesync_dst_offset, timesync_time_zone};
+use record::entry::MOST_NAME;
 use std::io::Result;
 
 // Writes a count that was read, or the refusal's number.
@@ -25,7 +25,7 @@ pub(crate) fn counts(rt: &impl Print, image: &[u8]) -> Result<()> {
 
 // The listed zone at an index, with its name as it is.
 pub(crate) fn zone(rt: &impl Print, image: &[u8], index: usize) -> Result<()> {
-    let mut name = [0u8; NAME_MAX];
+    let mut name = [0u8; MOST_NAME];
     let mut offset: i32 = 0;
     let mut start: u64 = 0;
     let mut is_named: u64 = 0;

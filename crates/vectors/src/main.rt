@@ -16,11 +16,6 @@ use std::io::Result;
 // Standard input.
 const STDIN_FILENO: i32 = 0;
 
-// Room for the longest name and the longest record.
-pub(crate) const NAME_MAX: usize = 64;
-
-pub(crate) const RECORD_MAX: usize = 962;
-
 // Answers one row: a letter for what is asked, then bytes in hexadecimal digits; a history has three decimal numbers before them.
 fn answer(rt: &impl Print, row: &[u8]) -> Result<()> {
     rt.write_all(row)?;

@@ -1,13 +1,13 @@
 // What is answered about a store: a whole history is run on it, and then it is walked.
-use crate::{NAME_MAX, RECORD_MAX, text};
+use crate::text;
 use lookups::MOST_MOMENTS;
+use record::MOST_BYTES;
+use record::entry::MOST_NAME;
 use std::io::Result;
-
-// How many bytes a moment has.
-const MOMENT_SIZE: usize = 8;
+use word::WORD;
 
 // Room for every moment of a walk.
-const MOMENTS_MAX: usize = MOST_MOMENTS * MOMENT_SIZE;
+const MOMENTS_MAX: usize = MOST_MOMENTS * WORD;
 
 // The limits of a history and the moment that its walk starts from.
 #[derive(Clone, Copy)]
@@ -32,7 +32,7 @@ impl Asked {
 // Writes the number of steps and the moments of a walk: the starting one, and one for each step.
 fn walked(rt: &impl Print, moments: &[u8], steps: u64) -> Result<()> {
     print!(rt; "{steps} steps:")?;
-    let (moments, _) = moments.as_chunks::<MOMENT_SIZE>();
+    let (moments, _) = moments.as_chunks::<WORD>();
     for moment in moments.iter().take((steps as usize).saturating_add(1)) {
         print!(rt; " {}", u64::from_le_bytes(*moment))?;
     }
@@ -42,8 +42,8 @@ fn walked(rt: &impl Print, moments: &[u8], steps: u64) -> Result<()> {
 // Runs a history at its limits and walks from its starting moment; what else is looked up is not shown.
 // Each output is a variable of its own, as the call for C wants it.
 fn run(asked: Asked, history: &[u8], moments: &mut [u8], steps: &mut u64) -> u64 {
-    let mut name = [0u8; NAME_MAX];
-    let mut record = [0u8; RECORD_MAX];
+    let mut name = [0u8; MOST_NAME];
+    let mut record = [0u8; MOST_BYTES];
     let mut zone: i32 = 0;
     let mut named: u64 = 0;
     let mut name_used: u64 = 0;
