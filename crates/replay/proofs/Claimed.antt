@@ -1,5 +1,5 @@
 -- What a run answers, by its causes; and demand 3 about what it answered.
-use Rattle.std.proofs.Common.{Option, None, Some, Result, Ok, Err, is_some, true, false, List, ◌≡◌, refl, sym, ap, ◌∙◌, ℕ, suc, ◌*◌, ◌≤◌, ◌<◌, arith, lt-ltb, le-ltb, length, take, drop, take_at}
+use Rattle.std.proofs.Common.{Bool, cond, Option, None, Some, Result, Ok, Err, is_some, true, false, List, ◌≡◌, refl, sym, ap, ◌∙◌, ℕ, suc, ◌*◌, ◌≤◌, ◌<◌, arith, lt-ltb, le-ltb, length, take, drop, take_at}
 use Rattle.std.proofs.Math.Seq.{take-append_seam}
 use Rattle.model.specs.declared.Refusal.{Refusal}
 use Rattle.model.specs.declared.Refusal.TheVariants.{Unreadable, BadLimits, NoSpace}
@@ -17,10 +17,9 @@ use Rattle.history.specs.Calls.{read_calls}
 use Rattle.table.specs.Layout.{table_size, store_in, new_table}
 use Rattle.table.specs.Left.{new_said, new_left}
 use Rattle.table.proofs.Made.{not_allowed, is_made, none_made, one_made}
-use Rattle.replay.specs.declared.told.Outcome.{Outcome}
 use Rattle.replay.specs.Replays.{Replayed, answers_of, new_store, name_told, moments_told, replayed, Lent, told, lent_after}
 use Rattle.replay.specs.Claim.{Demand3Answered, ReplayClaim}
-use Rattle.replay.specs.Tables.{room_for, answered}
+use Rattle.replay.specs.Tables.{answered}
 use Rattle.word.proofs.Writes.{length_numbers}
 
 -- ## By the limits and the history
@@ -70,14 +69,14 @@ module _ (s : List ℕ) (r : Rules) (h : table_size ≤ length s) (v : Result (U
 
 -- ## By the room in the slices
 
-pub room_none : (room : ℕ) (copied : List ℕ) → room_for room copied ≡ None → too_short room copied ≡ true
-room_none room copied e = by_test (too_short room copied) (λ t. t) (λ t. let q = rw t at e in cc)
+-- what is answered only where a test fails
+pub room_none : (short : Bool) (n : ℕ) → cond {A = Option ℕ} short None (Some n) ≡ None → short ≡ true
+room_none true n e = refl
+room_none false n e = cc
 
-pub room_some : (room : ℕ) (copied : List ℕ) (n : ℕ) → room_for room copied ≡ Some n → (too_short room copied ≡ false) × (n ≡ length copied)
-room_some room copied n e =
-    by_test (too_short room copied)
-    (λ t. let q = rw t at e in (cc, cc))
-    (λ t. let q = rw t at e in (t, cc))
+pub room_some : (short : Bool) (n k : ℕ) → cond short None (Some n) ≡ Some k → (short ≡ false) × (k ≡ n)
+room_some true n k e = (cc, cc)
+room_some false n k e = (refl, cc)
 
 module _ (t : List ℕ) (start at m n o : ℕ) where
   abbrev p : Replayed
@@ -87,36 +86,17 @@ module _ (t : List ℕ) (start at m n o : ℕ) where
   unfolding answered
   no_moments_room h = rw (lt-ltb m (length (moments_told p)) h)
 
-  module _ (h : length (moments_told p) ≤ m) where
-    pub no_name_room : n < length (name_told p) → answered t start at m n o ≡ refused NoSpace
-    unfolding answered
-    no_name_room k = rw (le-ltb m (length (moments_told p)) h, lt-ltb n (length (name_told p)) k)
+  pub no_name_room : n < length (name_told p) → answered t start at m n o ≡ refused NoSpace
+  unfolding answered
+  no_name_room h = by_test (too_short m (moments_told p)) (λ e. rw e) (λ e. rw (e, lt-ltb n (length (name_told p)) h))
 
-    module _ (k : length (name_told p) ≤ n) where
-      pub no_record_room : too_short o p.stored ≡ true → answered t start at m n o ≡ refused NoSpace
-      unfolding answered
-      no_record_room e = rw (le-ltb m (length (moments_told p)) h, le-ltb n (length (name_told p)) k, e)
+  pub no_record_room : too_short o p.stored ≡ true → answered t start at m n o ≡ refused NoSpace
+  unfolding answered
+  no_record_room h = by_test (too_short m (moments_told p)) (λ e. rw e) (λ e. by_test (too_short n (name_told p)) (λ f. rw (e, f)) (λ f. rw (e, f, h)))
 
-      pub all_told : too_short o p.stored ≡ false → answered t start at m n o ≡ answers p
-      unfolding answered
-      all_told e = rw (le-ltb m (length (moments_told p)) h, le-ltb n (length (name_told p)) k, e)
-
--- ## By what is answered by value
-
-pub outcome_parts : {o p : Outcome}
-    → o.steps ≡ p.steps
-    → o.zone ≡ p.zone
-    → o.name ≡ p.name
-    → o.window ≡ p.window
-    → o.usable ≡ p.usable
-    → o.next ≡ p.next
-    → o.stored ≡ p.stored
-    → o.generation ≡ p.generation
-    → ◌≡◌ {A = Result Outcome Refusal} (Ok o) (Ok p)
-outcome_parts {o} {p} a b c d e f g h =
-    let same : ◌≡◌ {A = Outcome} (record { steps = o.steps; zone = o.zone; name = o.name; window = o.window; usable = o.usable; next = o.next; stored = o.stored; generation = o.generation })
-    (record { steps = p.steps; zone = p.zone; name = p.name; window = p.window; usable = p.usable; next = p.next; stored = p.stored; generation = p.generation }) = cc in
-    rw same
+  pub all_told : length (moments_told p) ≤ m → length (name_told p) ≤ n → too_short o p.stored ≡ false → answered t start at m n o ≡ answers p
+  unfolding answered
+  all_told h k e = rw (le-ltb m (length (moments_told p)) h, le-ltb n (length (name_told p)) k, e)
 
 -- ## Demand 3 about the answers
 

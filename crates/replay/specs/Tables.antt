@@ -1,17 +1,15 @@
 -- What the calls of a history make of the bytes of a table, and what is looked up in it afterwards.
-use Rattle.std.specs.Prelude.{cond, List, ◌≡◌, ℕ, length, take, drop, Option, None, Some, option_map, Result, Ok, Err}
+use Rattle.std.specs.Prelude.{List, ◌≡◌, ℕ, length, None, Some, option_map, Result, Ok, Err}
 use Rattle.model.specs.declared.Refusal.{Refusal}
-use Rattle.model.specs.Lists.{Name}
 use Rattle.model.specs.Answers.{Answer, refused, answers}
 use Rattle.model.specs.Basics.{run}
 use Rattle.model.specs.Bytes.{record_most}
 use Rattle.model.specs.History.{Call, SetTimeZone, SetDSTOffset, Load, FactoryReset}
-use Rattle.model.specs.Output.{too_short, roomy}
+use Rattle.model.specs.Output.{roomy}
 use Rattle.history.specs.Calls.{read_calls}
 use Rattle.table.specs.Layout.{store_in}
 use Rattle.table.specs.Left.{time_zone_left, dst_offset_left, load_left, reset_left}
-use Rattle.lookups.specs.declared.NamePlace.{NamePlace}
-use Rattle.replay.specs.declared.told.Outcome.{Outcome}
+use Rattle.replay.specs.declared.Outcome.{Outcome}
 use Rattle.replay.specs.Replays.{Replayed, answers_of, name_told, moments_told}
 
 -- ## The calls
@@ -40,19 +38,6 @@ answered t start at moments name out =
     roomy out (λ p. p.stored) (roomy name name_told (roomy moments moments_told (answers (answers_of (store_in t) start at))))
 
 -- ## What is told
-
--- the name at a place of a table, if there is one
-abbrev pub name_at : List ℕ → Option NamePlace → Option Name
-name_at s place = option_map (λ p. take p.len (drop p.at s)) place
-
--- how long a name is, by its place
-abbrev pub length_of : Option NamePlace → ℕ
-length_of None = 0
-length_of (Some p) = p.len
-
--- how long what is copied is, where the slice has room for it
-abbrev pub room_for : ℕ → List ℕ → Option ℕ
-room_for room copied = cond (too_short room copied) None (Some (length copied))
 
 -- what a run answers by value
 abbrev pub outcome : Replayed → Outcome

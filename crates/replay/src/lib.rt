@@ -3,9 +3,8 @@
 #![tactic(auto)]
 
 mod calls;
-mod told;
 
-ghost use Rattle.std.specs.Prelude.{◌≡◌, ◌≤◌, length};
+ghost use Rattle.std.specs.Prelude.{◌≡◌, ◌≤◌, length, option_copied};
 ghost use Rattle.model.specs.Answers.{number_of};
 ghost use Rattle.model.specs.Output.{leaves_copy};
 ghost use Rattle.table.specs.Layout.{table_size};
@@ -13,11 +12,35 @@ ghost use Rattle.model.specs.Rules.{Rules};
 ghost use Rattle.replay.specs.Replays.{Lent, name_told, moments_told, replayed, lent_after};
 ghost use Rattle.replay.specs.Claim.{ReplayClaim};
 ghost use Rattle.replay.specs.Tables.{answered, by_value};
+ghost use Rattle.lookups.specs.Laws.{shown_name};
 
+use lookups::ZoneShown;
 use model::{Refusal, TAKEN};
 use table::layout::SIZE;
-use told::Outcome;
 use word::WORD;
+
+// What a run answers by value: the moments, the name and the record stand in slices.
+#[derive(Clone, Copy)]
+struct Outcome {
+    steps: usize,
+    zone: i32,
+    // How long the zone's name is, if it has one.
+    name: Option<usize>,
+    window: Option<i32>,
+    usable: bool,
+    next: Option<u64>,
+    // How long the record is.
+    stored: usize,
+    generation: u32,
+}
+
+fn name_in<'a>(zone: &ZoneShown, table: &'a [u8]) -> Option<&'a [u8]>
+    ensures { option_copied result ≡ shown_name table.now zone.now }
+{
+    let place = zone.name?;
+    let rest = table.get(place.at..).unwrap_or_default();
+    Some(rest.get(..place.len).unwrap_or(rest))
+}
 
 // Every lookup in a table at a moment, the walk from another on, the record and the generation; tested for room before anything is written.
 fn answered(
@@ -38,21 +61,19 @@ fn answered(
 {
     let walk = lookups::transitions::walk(table, start);
     let walked = walk.walked();
-    if moments.len() < WORD * walked.len() {
-        return Err(Refusal::NoSpace);
-    }
     let zone = lookups::zones::active_time_zone(table, at);
-    if name.len() < told::name_length(zone.name) {
+    let named = name_in(&zone, table);
+    let zone_name = named.unwrap_or_default();
+    if moments.len() < WORD * walked.len() || name.len() < zone_name.len() {
         return Err(Refusal::NoSpace);
     }
-    let Some(stored) = told::record(table, out) else {
-        return Err(Refusal::NoSpace);
-    };
+    let stored = table::write::put(table, out).ok_or(Refusal::NoSpace)?;
     word::put_u64s(moments, walked);
+    word::put(name, 0, zone_name);
     Ok(Outcome {
         steps: walk.steps,
         zone: zone.offset,
-        name: told::name(table, zone.name, name),
+        name: named.map(<[u8]>::len),
         window: lookups::windows::active_dst_offset(table, at),
         usable: lookups::windows::dst_usable(table, at),
         next: lookups::transitions::next_transition(table, at),

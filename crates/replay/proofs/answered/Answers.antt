@@ -1,58 +1,57 @@
 -- `answered` meets its contract.
 use Rattle.std.proofs.Common.{w32, to_z, of_z, rules, option_map, List, ◌≡◌, refl, sym, ap, ◌∙◌, ℕ, arith, length}
+use Rattle.std.specs.Option.{option_copied}
+use Rattle.std.proofs.lemmas.Grind.{common_steps}
+use Rattle.std.proofs.lemmas.Result.{err_from_is_err_and}
 use Rattle.model.specs.Lookups.{ZoneNow}
 use Rattle.model.specs.Output.{copied_over, moments_bytes, name_or}
-use Rattle.model.specs.Store.{record_of}
-use Rattle.table.specs.Layout.{store_in}
-use Rattle.replay.proofs.Written.{walked_lem, zoned, moments_put, name_room}
-use Rattle.replay.proofs.Claimed.{no_moments_room, no_name_room, no_record_room, all_told, room_none, room_some, outcome_parts}
+use Rattle.lookups.proofs.Owned.{walk_by_value}
+use Rattle.word.proofs.Writes.{length_numbers}
+use Rattle.replay.proofs.Written.{walked_moments, moments_long, zone_told, put_over}
+use Rattle.replay.proofs.Claimed.{room_none, room_some, no_moments_room, no_name_room, no_record_room, all_told}
 use Rattle.replay.proofs.answered.Goals as goal
+use Rattle.replay.proofs.answered.Goals.{then-moments-walked-via-then-moments-walked, then-moments-walked-via-else-moments-walked+then-name-zone_name}
 
 pub returns-then-moments-walked : goal.returns-then-moments-walked
 returns-then-moments-walked c =
     let a = c.args in
-    let w = walked_lem c.walk-walk.ensures c.walked-walked.ensures in
-    rw (no_moments_room a.table.now a.start a.at (length a.moments.now) (length a.name.now) (length a.out.now) (omega (arith, w.long)))
-    (record { value = refl; walked = refl; named = refl; stored = refl })
+    let long = moments_long (walked_moments a.table.now a.start c.walk-walk.ensures c.walked-walked.ensures) in
+    let name : c.unwrap_or_default-zone_name.result.now ≡ name_or (option_copied c.name_in-named.result) = grind (arith, common_steps) in
+    let told = name ∙ ap name_or (c.name_in-named.ensures ∙ ap (λ (x : ZoneNow). x.name) (zone_told a.table.now a.at c.active_time_zone-zone.ensures)) in
+    elim c.then-moments-walked.branch [
+      | then-moments-walked-via-then-moments-walked w ↦ rw (no_moments_room a.table.now a.start a.at (length a.moments.now) (length a.name.now) (length a.out.now) (omega arith)) (record { value = refl; walked = refl; named = refl; stored = refl })
+      | then-moments-walked-via-else-moments-walked+then-name-zone_name w ↦ rw (no_name_room a.table.now a.start a.at (length a.moments.now) (length a.name.now) (length a.out.now) (omega (arith, ap length told))) (record { value = refl; walked = refl; named = refl; stored = refl })
+    ]
 
-pub returns-then-name-name_length : goal.returns-then-name-name_length
-returns-then-name-name_length c =
+pub returns-in_err-stored : goal.returns-in_err-stored
+returns-in_err-stored c =
     let a = c.args in
-    let w = walked_lem c.walk-walk.ensures c.walked-walked.ensures in
-    let z = zoned c.requires c.active_time_zone-zone.ensures in
-    rw (no_name_room a.table.now a.start a.at (length a.moments.now) (length a.name.now) (length a.out.now) (omega (arith, w.long)) (omega (arith, z.long, c.name_length.ensures)))
-    (record { value = refl; walked = refl; named = refl; stored = refl })
-
-pub returns-in_default : goal.returns-in_default
-returns-in_default c =
-    let a = c.args in
-    let w = walked_lem c.walk-walk.ensures c.walked-walked.ensures in
-    let z = zoned c.requires c.active_time_zone-zone.ensures in
-    let r = record_of (store_in a.table.now) in
-    let short = room_none (length a.out.now) r (sym c.record.ensures.length ∙ c.in_default.is) in
-    rw (no_record_room a.table.now a.start a.at (length a.moments.now) (length a.name.now) (length a.out.now) (omega (arith, w.long)) (omega (arith, z.long, c.name_length.ensures)) short)
-    (record { value = refl; walked = refl; named = refl; stored = c.record.ensures.copied ∙ rw short })
-
-pub name-requires : goal.name-requires
-name-requires c =
-    let a = c.args in
-    let z = zoned c.requires c.active_time_zone-zone.ensures in
-    name_room a.table.now c.active_time_zone-zone.result.name (length a.name.now) z.inside (omega (arith, c.name_length.ensures))
+    let short = room_none _ _ (sym c.put.ensures.length ∙ c.in_err-stored.ensures.ok_part) in
+    let cause = rw c.in_err-stored.ensures.ok_part at c.in_err-stored.ensures.value in
+    let answer = err_from_is_err_and c.from_residual.result c.from_residual.ensures.1 in
+    let is = answer.1 in
+    let same = answer.2 in
+    rw (no_record_room a.table.now a.start a.at (length a.moments.now) (length a.name.now) (length a.out.now) short) (record { value = cc; walked = refl; named = refl; stored = c.put.ensures.copied ∙ rw short })
 
 pub returns : goal.returns
 returns c =
     let a = c.args in
-    let w = walked_lem c.walk-walk.ensures c.walked-walked.ensures in
-    let z = zoned c.requires c.active_time_zone-zone.ensures in
-    let r = record_of (store_in a.table.now) in
-    let offset = c.active_time_zone-zone.result.offset in
-    let back : to_z w32 (of_z w32 offset) ≡ offset = search rules in
-    let fits = room_some (length a.out.now) r c.in-Some.stored (sym c.record.ensures.length ∙ c.in-Some.is) in
-    rw (all_told a.table.now a.start a.at (length a.moments.now) (length a.name.now) (length a.out.now) (omega (arith, w.long)) (omega (arith, z.long, c.name_length.ensures)) fits.0)
+    let z = zone_told a.table.now a.at c.active_time_zone-zone.ensures in
+    let w = walk_by_value a.table.now a.start _ c.walk-walk.ensures in
+    let moments = walked_moments a.table.now a.start c.walk-walk.ensures c.walked-walked.ensures in
+    let long = moments_long moments in
+    let name : c.unwrap_or_default-zone_name.result.now ≡ name_or (option_copied c.name_in-named.result) = grind (arith, common_steps) in
+    let named : c.map.result ≡ option_map length (option_copied c.name_in-named.result) = grind (arith, common_steps) in
+    let zone = c.name_in-named.ensures ∙ ap (λ (x : ZoneNow). x.name) z in
+    let told = name ∙ ap name_or zone in
+    let back : to_z w32 (of_z w32 c.active_time_zone-zone.result.offset) ≡ c.active_time_zone-zone.result.offset = search rules in
+    let offset = back ∙ ap (λ (x : ZoneNow). x.offset) z in
+    let length_told = named ∙ ap (option_map length) zone in
+    let fits = room_some _ _ _ (sym c.put.ensures.length ∙ c.in_ok-stored.ensures.ok_part) in
+    rw (all_told a.table.now a.start a.at (length a.moments.now) (length a.name.now) (length a.out.now) (omega arith) (omega (arith, ap length told)) fits.0)
     (record {
-      value = outcome_parts w.steps (back ∙ ap (λ (x : ZoneNow). x.offset) z.is) (c.name.ensures.length ∙ ap (λ (x : ZoneNow). option_map length x.name) z.is) c.active_dst_offset.ensures
-          c.dst_usable.ensures c.next_transition.ensures fits.1 c.generation.ensures;
-      walked = moments_put a.moments.now c.walked-walked.result.now _ (omega (arith, w.long)) c.put_u64s.ensures.1 ∙ ap (λ (ms : List ℕ). copied_over (moments_bytes ms) a.moments.now) w.is;
-      named = c.name.ensures.copied ∙ ap (λ (x : ZoneNow). copied_over (name_or x.name) a.name.now) z.is;
-      stored = c.record.ensures.copied ∙ rw fits.0;
+      value = cc;
+      walked = put_over a.moments.now _ c.put_u64s.ensures.1 (omega (arith, length_numbers c.walked-walked.result.now)) ∙ ap (λ (ms : List ℕ). copied_over (moments_bytes ms) a.moments.now) moments;
+      named = put_over a.name.now _ c.put-2.ensures.1 c.if-name-zone_name.false ∙ ap (λ (n : List ℕ). copied_over n a.name.now) told;
+      stored = c.put.ensures.copied ∙ rw fits.0;
     })
