@@ -1,4 +1,5 @@
 // Readings of the clock, and the numbers of the list store.
+// C calls these through crate `controller_c`: an answer is a number, and a value that may be missing has a mark beside it, 0 where it is not there.
 ghost use Rattle.image.specs.Parts.{endpoint_of, fabric_of, node_of};
 ghost use Rattle.model.specs.Answers.{number_of};
 ghost use Rattle.model.specs.Output.{leaves, mark_of, or_zero, truth};
@@ -7,9 +8,10 @@ ghost use Rattle.std.specs.Prelude.{◌≡◌};
 
 // The UTC time at a tick: whether it is reliable, and the current or the last known moment.
 pub fn timesync_utc_time(image: &[u8], tick: u64, reliable: &mut u64, utc_us: &mut u64) -> u64
-    ensures { (result ≡ number_of (utc_time image.now tick))
-        × (reliable.new ≡ leaves (utc_time image.now tick) reliable_mark reliable.old)
-        × (utc_us.new ≡ leaves (utc_time image.now tick) moment_of utc_us.old) }
+    ensures { let r = utc_time image.now tick in
+        (result ≡ number_of r)
+        × (reliable.new ≡ leaves r reliable_mark reliable.old)
+        × (utc_us.new ≡ leaves r moment_of utc_us.old) }
 {
     readings::clock::utc_time(image, tick, reliable, utc_us)
 }
@@ -38,20 +40,22 @@ pub fn timesync_trusted_time_source(
     node_id: &mut u64,
     endpoint: &mut u64,
 ) -> u64
-    ensures { (result ≡ number_of (trusted_time_source image.now))
-        × (there.new ≡ leaves (trusted_time_source image.now) mark_of there.old)
-        × (fab_idx.new ≡ leaves (trusted_time_source image.now) fabric_of fab_idx.old)
-        × (node_id.new ≡ leaves (trusted_time_source image.now) node_of node_id.old)
-        × (endpoint.new ≡ leaves (trusted_time_source image.now) endpoint_of endpoint.old) }
+    ensures { let r = trusted_time_source image.now in
+        (result ≡ number_of r)
+        × (there.new ≡ leaves r mark_of there.old)
+        × (fab_idx.new ≡ leaves r fabric_of fab_idx.old)
+        × (node_id.new ≡ leaves r node_of node_id.old)
+        × (endpoint.new ≡ leaves r endpoint_of endpoint.old) }
 {
     readings::clock::trusted_time_source(image, there, fab_idx, node_id, endpoint)
 }
 
 // LocalTime at a tick, or null.
 pub fn timesync_local_time(image: &[u8], tick: u64, there: &mut u64, local_us: &mut u64) -> u64
-    ensures { (result ≡ number_of (local_time image.now tick))
-        × (there.new ≡ leaves (local_time image.now tick) mark_of there.old)
-        × (local_us.new ≡ leaves (local_time image.now tick) or_zero local_us.old) }
+    ensures { let r = local_time image.now tick in
+        (result ≡ number_of r)
+        × (there.new ≡ leaves r mark_of there.old)
+        × (local_us.new ≡ leaves r or_zero local_us.old) }
 {
     readings::clock::local_time(image, tick, there, local_us)
 }

@@ -1,4 +1,5 @@
 // The timer's look, and the steps of the client.
+// C calls these: an answer is a number, and a value that may be missing has a mark beside it, 0 where it is not there.
 ghost use Rattle.image.specs.Asked.{given};
 ghost use Rattle.steps.specs.Steps.{attempt_outcome, change_outcome, look_outcome, outcome_by};
 ghost use Rattle.std.specs.Prelude.{◌≡◌};
@@ -45,7 +46,8 @@ pub extern "C" fn timesync_attempt(
     wait: &mut u64,
     wait_us: &mut u64,
 ) -> u64
-    ensures { let o = attempt_outcome image.old (outcome_by answered (given has_utc utc_us) (given has_granularity granularity)) tick wait.old wait_us.old in
+    ensures { let answer = outcome_by answered (given has_utc utc_us) (given has_granularity granularity) in
+        let o = attempt_outcome image.old answer tick wait.old wait_us.old in
         (result ≡ o.returned)
         × (image.new ≡ o.image)
         × (wait.new ≡ o.wait)

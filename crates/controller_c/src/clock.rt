@@ -1,4 +1,5 @@
 // A new image, commands on the clock, its own settings, its load and its reset.
+// C calls these: an answer is a number, and a value that may be missing has a mark beside it, 0 where it is not there.
 ghost use Rattle.commands.specs.Calls.{load_clock, named_by, new, reset_clock, rtc_set, rtc_set_persist, set_trusted_time_source, set_utc_time_command, source_by};
 ghost use Rattle.image.specs.Asked.{given};
 ghost use Rattle.std.specs.Prelude.{◌≡◌};
@@ -13,8 +14,9 @@ pub extern "C" fn timesync_new(
     build: u64,
     period: u64,
 ) -> u64
-    ensures { (result ≡ (new image.old list_store zone_limit window_limit build period).returned)
-        × (image.new ≡ (new image.old list_store zone_limit window_limit build period).image) }
+    ensures { let o = new image.old list_store zone_limit window_limit build period in
+        (result ≡ o.returned)
+        × (image.new ≡ o.image) }
 {
     controller::clock::timesync_new(image, list_store, zone_limit, window_limit, build, period)
 }
@@ -29,8 +31,9 @@ pub extern "C" fn timesync_set_utc_time(
     source: u8,
     tick: u64,
 ) -> u64
-    ensures { (result ≡ (set_utc_time_command image.old utc_us granularity (given has_source source) tick).returned)
-        × (image.new ≡ (set_utc_time_command image.old utc_us granularity (given has_source source) tick).image) }
+    ensures { let o = set_utc_time_command image.old utc_us granularity (given has_source source) tick in
+        (result ≡ o.returned)
+        × (image.new ≡ o.image) }
 {
     controller::clock::timesync_set_utc_time(image, utc_us, granularity, has_source, source, tick)
 }
@@ -44,8 +47,9 @@ pub extern "C" fn timesync_set_trusted_time_source(
     node_id: u64,
     endpoint: u16,
 ) -> u64
-    ensures { (result ≡ (set_trusted_time_source image.old fab_idx (named_by named node_id endpoint)).returned)
-        × (image.new ≡ (set_trusted_time_source image.old fab_idx (named_by named node_id endpoint)).image) }
+    ensures { let o = set_trusted_time_source image.old fab_idx (named_by named node_id endpoint) in
+        (result ≡ o.returned)
+        × (image.new ≡ o.image) }
 {
     controller::clock::timesync_set_trusted_time_source(image, fab_idx, named, node_id, endpoint)
 }
@@ -60,9 +64,10 @@ pub extern "C" fn timesync_rtc_set_utc_time(
     tick: u64,
     changed: &mut u64,
 ) -> u64
-    ensures { (result ≡ (rtc_set image.old utc_us granularity source tick changed.old).returned)
-        × (image.new ≡ (rtc_set image.old utc_us granularity source tick changed.old).image)
-        × (changed.new ≡ (rtc_set image.old utc_us granularity source tick changed.old).changed) }
+    ensures { let o = rtc_set image.old utc_us granularity source tick changed.old in
+        (result ≡ o.returned)
+        × (image.new ≡ o.image)
+        × (changed.new ≡ o.changed) }
 {
     controller::clock::timesync_rtc_set_utc_time(image, utc_us, granularity, source, tick, changed)
 }
@@ -77,9 +82,10 @@ pub extern "C" fn timesync_rtc_set_utc_time_persist(
     tick: u64,
     changed: &mut u64,
 ) -> u64
-    ensures { (result ≡ (rtc_set_persist image.old utc_us granularity source tick changed.old).returned)
-        × (image.new ≡ (rtc_set_persist image.old utc_us granularity source tick changed.old).image)
-        × (changed.new ≡ (rtc_set_persist image.old utc_us granularity source tick changed.old).changed) }
+    ensures { let o = rtc_set_persist image.old utc_us granularity source tick changed.old in
+        (result ≡ o.returned)
+        × (image.new ≡ o.image)
+        × (changed.new ≡ o.changed) }
 {
     controller::clock::timesync_rtc_set_utc_time_persist(
         image,
@@ -103,8 +109,9 @@ pub extern "C" fn timesync_load_clock(
     node_id: u64,
     endpoint: u16,
 ) -> u64
-    ensures { (result ≡ (load_clock image.old build (given has_moment moment) (source_by has_source fab_idx node_id endpoint)).returned)
-        × (image.new ≡ (load_clock image.old build (given has_moment moment) (source_by has_source fab_idx node_id endpoint)).image) }
+    ensures { let o = load_clock image.old build (given has_moment moment) (source_by has_source fab_idx node_id endpoint) in
+        (result ≡ o.returned)
+        × (image.new ≡ o.image) }
 {
     controller::clock::timesync_load_clock(
         image, build, has_moment, moment, has_source, fab_idx, node_id, endpoint,

@@ -1,5 +1,6 @@
 // The entry points for C. Each works on numbers, on slices, and on one image that the caller lends; include/timesync.h says how to call
-// them. Each hands over to the function of the same name in crate `controller`, and says what that says.
+// them. Each hands over to the function of the same name in crate `controller`, and says what that says. C calls them: so an answer is a
+// number, and a value that may be missing has a mark beside it, 0 where it is not there.
 #![tactic(auto)]
 
 mod attributes;

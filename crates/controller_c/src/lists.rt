@@ -1,4 +1,5 @@
 // Commands on the lists, their load and their reset.
+// C calls these: an answer is a number, and a value that may be missing has a mark beside it, 0 where it is not there.
 ghost use Rattle.commands.specs.Calls.{load_lists, reset_lists, set_dst_offset, set_time_zone};
 ghost use Rattle.image.specs.Asked.{given};
 ghost use Rattle.std.specs.Prelude.{◌≡◌};
@@ -11,10 +12,11 @@ pub extern "C" fn timesync_set_time_zone(
     out: &mut [u8],
     used: &mut u64,
 ) -> u64
-    ensures { (result ≡ (set_time_zone image.old request.now out.old used.old).returned)
-        × (image.new ≡ (set_time_zone image.old request.now out.old used.old).image)
-        × (out.new ≡ (set_time_zone image.old request.now out.old used.old).out)
-        × (used.new ≡ (set_time_zone image.old request.now out.old used.old).used) }
+    ensures { let o = set_time_zone image.old request.now out.old used.old in
+        (result ≡ o.returned)
+        × (image.new ≡ o.image)
+        × (out.new ≡ o.out)
+        × (used.new ≡ o.used) }
 {
     controller::lists::timesync_set_time_zone(image, request, out, used)
 }
@@ -27,10 +29,11 @@ pub extern "C" fn timesync_set_dst_offset(
     out: &mut [u8],
     used: &mut u64,
 ) -> u64
-    ensures { (result ≡ (set_dst_offset image.old request.now out.old used.old).returned)
-        × (image.new ≡ (set_dst_offset image.old request.now out.old used.old).image)
-        × (out.new ≡ (set_dst_offset image.old request.now out.old used.old).out)
-        × (used.new ≡ (set_dst_offset image.old request.now out.old used.old).used) }
+    ensures { let o = set_dst_offset image.old request.now out.old used.old in
+        (result ≡ o.returned)
+        × (image.new ≡ o.image)
+        × (out.new ≡ o.out)
+        × (used.new ≡ o.used) }
 {
     controller::lists::timesync_set_dst_offset(image, request, out, used)
 }
@@ -38,8 +41,9 @@ pub extern "C" fn timesync_set_dst_offset(
 // Loads the lists from their record where `there` is not 0.
 #[unsafe(no_mangle)]
 pub extern "C" fn timesync_load_lists(image: &mut [u8], there: u8, stored: &[u8]) -> u64
-    ensures { (result ≡ (load_lists image.old (given there stored.now)).returned)
-        × (image.new ≡ (load_lists image.old (given there stored.now)).image) }
+    ensures { let o = load_lists image.old (given there stored.now) in
+        (result ≡ o.returned)
+        × (image.new ≡ o.image) }
 {
     controller::lists::timesync_load_lists(image, there, stored)
 }

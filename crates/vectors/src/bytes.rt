@@ -1,73 +1,78 @@
 // What is answered about bytes: UTF-8, sections, records.
-use crate::text;
+use record::entry::Entry;
 use record::{DSTOffsetRead, RecordRead, SectionRead, TimeZoneRead, read};
+use std::io::Result;
+use std::iter;
+
+// The place of a section's first entry, behind the number of entries.
+const FIRST_ENTRY: usize = 1;
 
 // Whether the bytes are well-formed UTF-8.
-pub(crate) fn utf8(s: &[u8]) {
+pub(crate) fn utf8(rt: &impl Print, s: &[u8]) -> Result<()> {
     if word::text::utf8(s) {
-        text::words(b"well-formed");
+        print!(rt; "well-formed")
     } else {
-        text::words(b"malformed");
+        print!(rt; "malformed")
     }
 }
 
-// Writes one zone of a section, and how many bytes its name has.
-fn zone(found: Option<TimeZoneRead>) {
-    let Some(zone) = found else {
-        text::words(b"unreadable");
-        return;
-    };
-    text::offset_from(zone.offset, zone.valid_at);
-    if let Some(name) = zone.name {
-        text::numbered(b" named by ", name.len as u64);
+// An entry of a section that can be written.
+trait Shown: Entry {
+    fn show<P: Print>(&self, rt: &P) -> Result<()>;
+}
+
+impl Shown for TimeZoneRead {
+    // The zone, and how many bytes its name has.
+    fn show<P: Print>(&self, rt: &P) -> Result<()> {
+        print!(rt; "{} from {}", self.offset, self.valid_at)?;
+        match self.name {
+            None => Ok(()),
+            Some(name) => print!(rt; " named by {}", name.len),
+        }
     }
 }
 
-// Writes one window of a section.
-fn window(found: Option<DSTOffsetRead>) {
-    let Some(window) = found else {
-        text::words(b"unreadable");
-        return;
-    };
-    text::offset_from(window.offset, window.valid_starting);
-    match window.valid_until {
-        None => text::words(b", open"),
-        Some(end) => text::numbered(b" to ", end),
+impl Shown for DSTOffsetRead {
+    fn show<P: Print>(&self, rt: &P) -> Result<()> {
+        print!(rt; "{} from {}", self.offset, self.valid_starting)?;
+        match self.valid_until {
+            None => print!(rt; ", open"),
+            Some(end) => print!(rt; " to {end}"),
+        }
     }
 }
 
 // Writes how many entries a section has and each of them, or that the section cannot be read.
-fn section<F: Fn(usize)>(found: Option<SectionRead>, entry: F)
-    requires { F.IsAlwaysCallable entry }
-{
+fn section<E: Shown>(rt: &impl Print, s: &[u8], found: Option<SectionRead>) -> Result<()> {
     let Some(section) = found else {
-        text::words(b"unreadable");
-        return;
+        return print!(rt; "unreadable");
     };
-    text::decimal(section.count as u64);
-    for i in 0..section.count as usize {
-        text::words(b"; ");
-        entry(i);
+    print!(rt; "{}", section.count)?;
+    let entries = iter::successors(
+        E::read_at(s, FIRST_ENTRY),
+        |entry| E::read_at(s, entry.next()),
+    );
+    for entry in entries.take(section.count as usize) {
+        print!(rt; "; ")?;
+        entry.show(rt)?;
     }
+    Ok(())
 }
 
 // Writes the zones of a section.
-pub(crate) fn zones(s: &[u8]) {
-    section(read::time_zones(s), |i| zone(read::time_zone(s, i)));
+pub(crate) fn zones(rt: &impl Print, s: &[u8]) -> Result<()> {
+    section::<TimeZoneRead>(rt, s, read::time_zones(s))
 }
 
 // Writes the windows of a section.
-pub(crate) fn windows(s: &[u8]) {
-    section(read::dst_offsets(s), |i| window(read::dst_offset(s, i)));
+pub(crate) fn windows(rt: &impl Print, s: &[u8]) -> Result<()> {
+    section::<DSTOffsetRead>(rt, s, read::dst_offsets(s))
 }
 
 // Writes how many zones and windows a record has.
-pub(crate) fn record(s: &[u8]) {
+pub(crate) fn record(rt: &impl Print, s: &[u8]) -> Result<()> {
     let Some(RecordRead { zones, at, windows }) = read::record(s) else {
-        text::words(b"unreadable");
-        return;
+        return print!(rt; "unreadable");
     };
-    text::decimal(zones as u64);
-    text::numbered(b" zones, ", windows as u64);
-    text::numbered(b" windows from byte ", at as u64);
+    print!(rt; "{zones} zones, {windows} windows from byte {at}")
 }

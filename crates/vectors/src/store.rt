@@ -1,30 +1,49 @@
 // What is answered about a store: a whole history is run on it, and then it is walked.
-use crate::{NAME_MAX, RECORD_MAX, text};
-
-// The most moments of a walk, and how many bytes a moment has.
-const MOST_MOMENTS: usize = 41;
-
-const MOMENT_SIZE: usize = 8;
+use crate::text;
+use lookups::MOST_MOMENTS;
+use record::MOST_BYTES;
+use record::entry::MOST_NAME;
+use std::io::Result;
+use word::WORD;
 
 // Room for every moment of a walk.
-const MOMENTS_MAX: usize = MOST_MOMENTS * MOMENT_SIZE;
+const MOMENTS_MAX: usize = MOST_MOMENTS * WORD;
 
-// Writes the number of steps and the moments of a walk: the starting one, and one for each step.
-fn walked(moments: &[u8], steps: u64) {
-    text::decimal(steps);
-    text::words(b" steps:");
-    let (moments, _) = moments.as_chunks::<MOMENT_SIZE>();
-    for moment in moments.iter().take((steps as usize).saturating_add(1)) {
-        text::numbered(b" ", u64::from_le_bytes(*moment));
+// The limits of a history and the moment that its walk starts from.
+#[derive(Clone, Copy)]
+struct Asked {
+    zone_limit: usize,
+    window_limit: usize,
+    start: u64,
+}
+
+impl Asked {
+    // The three numbers behind the letter of a row.
+    fn read(row: &[u8]) -> Option<Asked> {
+        let mut words = row.split(|b| *b == b' ').skip(1);
+        Some(Asked {
+            zone_limit: text::number(words.next()?)? as usize,
+            window_limit: text::number(words.next()?)? as usize,
+            start: text::number(words.next()?)?,
+        })
     }
 }
 
-// Runs the history of a row at its limits and walks from its starting moment; what else is looked up is not shown.
+// Writes the number of steps and the moments of a walk: the starting one, and one for each step.
+fn walked(rt: &impl Print, moments: &[u8], steps: u64) -> Result<()> {
+    print!(rt; "{steps} steps:")?;
+    let (moments, _) = moments.as_chunks::<WORD>();
+    for moment in moments.iter().take((steps as usize).saturating_add(1)) {
+        print!(rt; " {}", u64::from_le_bytes(*moment))?;
+    }
+    Ok(())
+}
+
+// Runs a history at its limits and walks from its starting moment; what else is looked up is not shown.
 // Each output is a variable of its own, as the call for C wants it.
-fn run(row: &[u8], history: &[u8], moments: &mut [u8], steps: &mut u64) -> u64 {
-    let start = text::number(row, 3);
-    let mut name = [0u8; NAME_MAX];
-    let mut record = [0u8; RECORD_MAX];
+fn run(asked: Asked, history: &[u8], moments: &mut [u8], steps: &mut u64) -> u64 {
+    let mut name = [0u8; MOST_NAME];
+    let mut record = [0u8; MOST_BYTES];
     let mut zone: i32 = 0;
     let mut named: u64 = 0;
     let mut name_used: u64 = 0;
@@ -36,11 +55,11 @@ fn run(row: &[u8], history: &[u8], moments: &mut [u8], steps: &mut u64) -> u64 {
     let mut used: u64 = 0;
     let mut generation: u64 = 0;
     replay::timesync_replay(
-        text::number(row, 1) as usize,
-        text::number(row, 2) as usize,
+        asked.zone_limit,
+        asked.window_limit,
         history,
-        start,
-        start,
+        asked.start,
+        asked.start,
         moments,
         steps,
         &mut name,
@@ -59,13 +78,14 @@ fn run(row: &[u8], history: &[u8], moments: &mut [u8], steps: &mut u64) -> u64 {
 }
 
 // Runs a history and writes the walk: zone limit, window limit, starting moment, and the calls in hexadecimal digits.
-pub(crate) fn replayed(row: &[u8], history: &[u8]) {
+pub(crate) fn replayed(rt: &impl Print, row: &[u8], history: &[u8]) -> Result<()> {
+    let Some(asked) = Asked::read(row) else {
+        return print!(rt; "unreadable");
+    };
     let mut moments = [0u8; MOMENTS_MAX];
     let mut steps: u64 = 0;
-    let answer = run(row, history, &mut moments, &mut steps);
-    if answer != 0 {
-        text::numbered(b"refused ", answer);
-        return;
+    match run(asked, history, &mut moments, &mut steps) {
+        0 => walked(rt, &moments, steps),
+        refusal => print!(rt; "refused {refusal}"),
     }
-    walked(&moments, steps);
 }

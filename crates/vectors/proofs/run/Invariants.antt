@@ -1,5 +1,5 @@
 use Rattle.std.proofs.Common.{◌≤◌, length}
-use Rattle.vectors.proofs.main.Given as goal
+use Rattle.vectors.proofs.run.Given as goal
 
 abbrev pub invariant-loop : goal.invariant-loop
-invariant-loop l = l.kept ≤ length l.table
+invariant-loop g l = l.kept ≤ length l.table
