@@ -81,6 +81,15 @@ impl From<Refusal> for u8 {
     }
 }
 
+// As C reads it.
+impl From<Refusal> for u64 {
+    fn from(refusal: Refusal) -> u64
+        ensures { result ≡ refusal_number refusal }
+    {
+        refusal as u64
+    }
+}
+
 impl TryFrom<u8> for Refusal {
     type Error = UnknownNumber;
 

@@ -6,13 +6,12 @@ use Prim.Native.Nat.{ℕ, zero, suc, ◌+◌, ◌*◌, ◌-◌, ◌≤◌, ◌<�
 use native.Mathlib.Nat.{add-zero}
 use native.Mathlib.Numerals.{add-one}
 use native.Mathlib.Omega.{arith}
-use borrow.Author.Tests.{le-leb, lt-leb}
 use lib.ListN.{length, take, drop, set, get_or, replicate, length-append, take-append-drop, length-replicate}
 use lib.Seq.{take-suc}
 use Rattle.model.specs.Bytes.{bytes, all_bytes}
 use Rattle.model.specs.Output.{copied_over}
 use Rattle.model.proofs.Words.{length_bytes}
-use Rattle.word.specs.Place.{fits_at, put, placed, copied, with_numbers}
+use Rattle.word.specs.Place.{fits_at, put, placed, copied}
 use Rattle.word.proofs.Laws.{length_put, put_put, put_one}
 use Rattle.word.proofs.Places.{placed_there, copied_there}
 
@@ -120,19 +119,6 @@ length_numbers (n ∷ ns) = omega (arith, length-append (bytes 8 n) (numbers_byt
 pub no_numbers : numbers_bytes [] ≡ []
 unfolding all_bytes
 no_numbers = refl
-
--- where there are so many and all have room
-pub numbers_there : (s ns : List ℕ) (n : ℕ) → n ≤ length ns → 8 * n ≤ length s → with_numbers s ns n ≡ put s 0 (numbers_bytes (take n ns))
-unfolding with_numbers
-numbers_there s ns n h k = rw (le-leb n (length ns) h, le-leb (8 * n) (length s) k)
-
-pub numbers_few : (s ns : List ℕ) (n : ℕ) → length ns < n → with_numbers s ns n ≡ s
-unfolding with_numbers
-numbers_few s ns n h = rw (lt-leb n (length ns) h)
-
-pub numbers_short : (s ns : List ℕ) (n : ℕ) → n ≤ length ns → length s < 8 * n → with_numbers s ns n ≡ s
-unfolding with_numbers
-numbers_short s ns n h k = rw (le-leb n (length ns) h, lt-leb (8 * n) (length s) k)
 
 -- bytes put at the front stand over what was there
 pub put_front : (s bs : List ℕ) → put s 0 bs ≡ copied_over bs s

@@ -6,12 +6,12 @@ pub mod or_zero;
 pub mod spelled;
 pub mod text;
 
-ghost use Rattle.std.specs.Prelude.{◌≡◌, ◌+◌, ◌*◌, ◌≤◌, min, length, take, drop};
+ghost use Rattle.std.specs.Prelude.{◌≡◌, ◌+◌, ◌*◌, ◌≤◌, length, take, drop};
 ghost use Rattle.model.specs.Bytes.{bytes, all_bytes, bits_of};
-ghost use Rattle.word.specs.Place.{fits_at, part_at, number_at, signed_at, put, placed, copied, with_numbers};
+ghost use Rattle.word.specs.Place.{fits_at, part_at, number_at, signed_at, put, placed, copied};
 
 // How many bytes a 64-bit number has.
-const WORD: usize = 8;
+pub const WORD: usize = 8;
 
 // Whether n bytes stand at `at`.
 pub fn in_bounds(s: &[u8], at: usize, n: usize) -> bool
@@ -27,7 +27,7 @@ fn array_at<const N: usize>(s: &[u8], at: usize) -> Option<[u8; N]>
     s.get(at..)?.first_chunk().copied()
 }
 
-// Writes some bytes at `at`, where they fit; answers whether they do.
+// Writes bytes at `at`, where they fit; answers whether they do. Beside `put`, for parts whose length the compiler knows: one store each.
 fn put_bytes(out: &mut [u8], at: usize, part: &[u8]) -> bool
     ensures { (result ≡ fits_at out.old at (length part.now)) × (out.new ≡ placed out.old at part.now) }
 {
@@ -39,53 +39,56 @@ fn put_bytes(out: &mut [u8], at: usize, part: &[u8]) -> bool
     false
 }
 
-// Copies the eight bytes at `from` to `at`, by way of an array: one load and one store.
-fn copy_word(out: &mut [u8], at: usize, s: &[u8], from: usize)
-    requires { (from + 8 ≤ length s.now) × (at + 8 ≤ length out.old) }
-    ensures { out.new ≡ put out.old at (take 8 (drop from s.now)) }
+// Writes words one after another, each by way of an array: one load and one store.
+fn put_words(out: &mut [u8], words: &[[u8; WORD]])
+    requires { length out.old ≡ 8 * length words.now }
+    ensures { out.new ≡ all_bytes (λ w. w) words.now }
 {
-    let word: [u8; WORD] = *s[from..].first_chunk().unwrap();
-    out[at..at + WORD].copy_from_slice(&word);
-}
-
-// Copies n words of eight bytes.
-fn copy_words(out: &mut [u8], at: usize, s: &[u8], from: usize, n: usize)
-    requires { (from + 8 * n ≤ length s.now) × (at + 8 * n ≤ length out.old) }
-    ensures { out.new ≡ put out.old at (take (8 * n) (drop from s.now)) }
-{
-    for i in 0..n {
-        copy_word(out, at + WORD * i, s, from + WORD * i);
+    for (i, word) in words.iter().enumerate() {
+        out[WORD * i..WORD * (i + 1)].copy_from_slice(word);
     }
 }
 
-// Copies n bytes, one by one.
-fn copy_bytes(out: &mut [u8], at: usize, s: &[u8], from: usize, n: usize)
-    requires { (from + n ≤ length s.now) × (at + n ≤ length out.old) }
-    ensures { out.new ≡ put out.old at (take n (drop from s.now)) }
+// Writes bytes one by one.
+fn put_singly(out: &mut [u8], part: &[u8])
+    requires { length out.old ≡ length part.now }
+    ensures { out.new ≡ part.now }
 {
-    for i in 0..n {
-        out[at + i] = s[from + i];
+    for (i, byte) in part.iter().enumerate() {
+        out[i] = *byte;
     }
 }
 
-// Copies n bytes from `from` on to `at`, eight at a time. Not by one `copy_from_slice`: of a length that only the caller knows it asks for
+// Writes bytes over others, as many, a word at a time. Not by one `copy_from_slice`: of a length that only the caller knows it asks for
 // memmove, and the archive for C asks for memcpy and memset alone; byte by byte alone, a listed entry takes more than the Rust's.
-fn copy_there(out: &mut [u8], at: usize, s: &[u8], from: usize, n: usize)
-    requires { (from + n ≤ length s.now) × (at + n ≤ length out.old) }
-    ensures { out.new ≡ put out.old at (take n (drop from s.now)) }
+fn put_over(out: &mut [u8], part: &[u8])
+    requires { length out.old ≡ length part.now }
+    ensures { out.new ≡ part.now }
 {
-    let words = n / WORD;
-    let done = WORD * words;
-    copy_words(out, at, s, from, words);
-    copy_bytes(out, at + done, s, from + done, n - done);
+    let (words, rest) = part.as_chunks::<WORD>();
+    let (front, back) = out.split_at_mut(part.len() - rest.len());
+    put_words(front, words);
+    put_singly(back, rest);
+}
+
+// Writes bytes at `at`, where they fit; answers whether they do.
+pub fn put(out: &mut [u8], at: usize, part: &[u8]) -> bool
+    ensures { (result ≡ fits_at out.old at (length part.now)) × (out.new ≡ placed out.old at part.now) }
+{
+    let n = part.len();
+    if in_bounds(out, at, n) {
+        put_over(&mut out[at..at + n], part);
+        return true;
+    }
+    false
 }
 
 // Copies n bytes of s from `from` on to `at`, where both slices have so many; else nothing.
 pub fn copy(out: &mut [u8], at: usize, s: &[u8], from: usize, n: usize)
     ensures { out.new ≡ copied out.old at s.now from n }
 {
-    if in_bounds(s, from, n) && in_bounds(out, at, n) {
-        copy_there(out, at, s, from, n);
+    if in_bounds(s, from, n) {
+        put(out, at, &s[from..from + n]);
     }
 }
 
@@ -138,7 +141,7 @@ pub fn put_i32(out: &mut [u8], at: usize, z: i32) -> bool
     put_u32(out, at, z.cast_unsigned())
 }
 
-// Writes numbers at the front, 8 bytes each.
+// Writes numbers one after another, 8 bytes each.
 fn put_numbers(out: &mut [u8], numbers: &[u64])
     requires { 8 * length numbers.now ≤ length out.old }
     ensures { out.new ≡ put out.old 0 (all_bytes (λ m. bytes 8 m) numbers.now) }
@@ -148,18 +151,13 @@ fn put_numbers(out: &mut [u8], numbers: &[u64])
     }
 }
 
-// Writes the first n numbers at the front, 8 bytes each, where there are so many and all have room; else nothing.
-pub fn put_u64s(out: &mut [u8], numbers: &[u64], n: usize)
-    ensures { out.new ≡ with_numbers out.old numbers.now n }
+// Writes numbers at the front, 8 bytes each, where they fit; answers whether they do.
+pub fn put_u64s(out: &mut [u8], numbers: &[u64]) -> bool
+    ensures { (result ≡ fits_at out.old 0 (8 * length numbers.now)) × (out.new ≡ placed out.old 0 (all_bytes (λ m. bytes 8 m) numbers.now)) }
 {
-    if n <= numbers.len() && n <= out.len() / WORD {
-        put_numbers(out, &numbers[..n]);
+    if in_bounds(out, 0, WORD * numbers.len()) {
+        put_numbers(out, numbers);
+        return true;
     }
-}
-
-// The smaller of two numbers.
-pub fn least(a: usize, b: usize) -> usize
-    ensures { result ≡ min a b }
-{
-    a.min(b)
+    false
 }

@@ -1,18 +1,20 @@
 -- `word::put_u64s` meets its contract.
-use Rattle.std.proofs.Common.{sym, ◌∙◌, arith}
-use Rattle.word.proofs.Writes.{numbers_there, numbers_few, numbers_short}
+use Rattle.std.proofs.Common.{◌*◌, length, sym, ◌∙◌, arith}
+use Rattle.word.proofs.Places.{fitting, unfitting, placed_there}
+use Rattle.word.proofs.Frame.{placed_else}
+use Rattle.word.proofs.Writes.{numbers_bytes, length_numbers}
 use Rattle.word.proofs.put_u64s.Goals as goal
-use Rattle.word.proofs.put_u64s.Goals.{else-n-numbers-via-then-n-numbers+else-n-out, else-n-numbers-via-else-n-numbers}
 
-pub returns-then-n-out : goal.returns-then-n-out
-returns-then-n-out c =
-    let a = c.args in
-    c.put_numbers.ensures ∙ sym (numbers_there a.out.now a.numbers.now a.n (omega arith) (omega arith))
+pub returns-then-in_bounds : goal.returns-then-in_bounds
+returns-then-in_bounds c =
+    let s = c.args.out.now in
+    let ns = c.args.numbers.now in
+    let fits = fitting (8 * length ns) s 0 c.in_bounds.ensures c.if-in_bounds.true in
+    (c.if-in_bounds.ensures, c.put_numbers.ensures ∙ sym (placed_there s 0 (numbers_bytes ns) (omega (arith, length_numbers ns))))
 
-pub returns-else-n-numbers : goal.returns-else-n-numbers
-returns-else-n-numbers c =
-    let a = c.args in
-    elim c.else-n-numbers.branch [
-      | else-n-numbers-via-then-n-numbers+else-n-out w ↦ sym (numbers_short a.out.now a.numbers.now a.n (omega arith) (omega arith))
-      | else-n-numbers-via-else-n-numbers w ↦ sym (numbers_few a.out.now a.numbers.now a.n (omega arith))
-    ]
+pub returns : goal.returns
+returns c =
+    let s = c.args.out.now in
+    let ns = c.args.numbers.now in
+    let short = unfitting (8 * length ns) s 0 c.in_bounds.ensures c.if-in_bounds.false in
+    (c.if-in_bounds.ensures, sym (placed_else s 0 (numbers_bytes ns) (omega (arith, length_numbers ns))))
