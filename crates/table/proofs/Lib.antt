@@ -17,3 +17,4 @@ pub mod Made
 pub mod Room
 pub mod Heads
 pub mod Follows
+pub mod Places

@@ -1,7 +1,6 @@
 -- The bytes of a new table, and where one is made.
 use Rattle.std.specs.Prelude.{Ok, Err}
-use Rattle.std.proofs.Common.{◌≡◌, ℕ, ◌<◌, ◌≤◌, Bool, true, false, ◌&&◌, leb, List, length, refl, arith, le-leb}
-use borrow.Author.Tests.{lt-leb}
+use Rattle.std.proofs.Common.{◌≡◌, ℕ, ◌≤◌, Bool, true, false, ◌&&◌, leb, List, length, refl, arith, le-leb}
 use lib.ListN.{length-replicate}
 use Rattle.model.specs.declared.Refusal.TheVariants as R
 use Rattle.model.specs.Rules.{Rules, allowed}
@@ -15,11 +14,7 @@ unfolding new_bytes
 length_new r = omega (arith, length-replicate {A = ℕ} 1038 0)
 
 module _ (s : List ℕ) (r : Rules) where
-  -- bytes that are too few, or limits that are not allowed, make none
-  pub too_short_lem : length s < table_size → makes s r ≡ false
-  unfolding makes
-  too_short_lem h = rw (lt-leb table_size (length s) h)
-
+  -- limits that are not allowed make none
   pub not_allowed : allowed r ≡ false → makes s r ≡ false
   unfolding makes
   not_allowed h = rw h (go (leb table_size (length s)))

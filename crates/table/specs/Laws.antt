@@ -1,5 +1,5 @@
 -- What holds of tables; the proofs stand in proofs/.
-use Rattle.std.specs.Prelude.{◌≡◌, ℕ, ◌≤◌, true, List, length, Option, None, Some}
+use Rattle.std.specs.Prelude.{◌≡◌, ℕ, ◌<◌, ◌≤◌, true, List, length, map, take, drop, slice_index_or, Option, None, Some}
 use Rattle.model.specs.Basics.{All}
 use Rattle.model.specs.Lists.{Name, Zone, Window, empty}
 use Rattle.model.specs.Rules.{Rules, allowed}
@@ -7,8 +7,32 @@ use Rattle.model.specs.RoundTrip.{AreBytes, ZonesFit, WindowsFit}
 use Rattle.model.specs.History.{SetTimeZone, SetDSTOffset, Load, FactoryReset}
 use Rattle.model.specs.Store.{store_after}
 use Rattle.model.specs.Output.{store_after_sized}
-use Rattle.table.specs.Layout.{table_size, zones_in, windows_in, store_in, with_zones, with_windows, new_table}
+use Rattle.table.specs.Layout.{table_size, zone_place, window_place, zone_at, window_at, zone_count, window_count, zone_places, window_places, zones_in, windows_in, store_in, with_zones, with_windows, new_table}
 use Rattle.table.specs.Left.{time_zone_left, dst_offset_left, load_left, reset_left}
+
+-- ## The places in use
+
+-- one for each entry, each the bytes of the entry's place
+pub record PlacesAre (s : List ℕ) (places : List (List ℕ)) (count size : ℕ) (place : ℕ → ℕ) : Type 0 where
+  pub number : length places ≡ count
+  pub each : (i : ℕ) (d : List ℕ) → i < count → slice_index_or places i d ≡ take size (drop (place i) s)
+
+-- `zone_places_are` in proofs/Places.antt; so are the next two
+abbrev pub ZonePlacesAre : Type 0
+ZonePlacesAre = (s : List ℕ) → PlacesAre s (zone_places s) (zone_count s) 80 zone_place
+
+-- `window_places_are`
+abbrev pub WindowPlacesAre : Type 0
+WindowPlacesAre = (s : List ℕ) → PlacesAre s (window_places s) (window_count s) 24 window_place
+
+-- each entry is read in the bytes of its place alone
+pub record ByPlaces (s : List ℕ) : Type 0 where
+  pub zones : zones_in s ≡ map (λ p. zone_at p 0) (zone_places s)
+  pub windows : windows_in s ≡ map (λ p. window_at p 0) (window_places s)
+
+-- `lists_by_places`
+abbrev pub ListsByPlaces : Type 0
+ListsByPlaces = (s : List ℕ) → ByPlaces s
 
 -- ## Lists that are written read back
 

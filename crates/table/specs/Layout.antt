@@ -92,6 +92,13 @@ zone_count s = count_in zone_count_place 8 s
 abbrev pub window_count : List ℕ → ℕ
 window_count s = count_in window_count_place 16 s
 
+-- the bytes of each place in use
+unfoldable pub zone_places : List ℕ → List (List ℕ)
+zone_places s = entries_from (λ i. take 80 (drop (zone_place i) s)) 0 (zone_count s)
+
+unfoldable pub window_places : List ℕ → List (List ℕ)
+window_places s = entries_from (λ i. take 24 (drop (window_place i) s)) 0 (window_count s)
+
 -- the lists
 unfoldable pub zones_in : List ℕ → List Zone
 zones_in s = entries_from (λ i. zone_at s (zone_place i)) 0 (zone_count s)

@@ -1,7 +1,9 @@
 // The places of a table, and its small numbers.
 ghost use Rattle.std.specs.Prelude.{◌≡◌, ◌<◌};
-ghost use Rattle.table.specs.Layout.{count_in, zone_count, window_count, zone_limit_in, window_limit_in, generation_in, counted, new_table};
+ghost use Rattle.table.specs.Layout.{count_in, zone_count, window_count, zone_places, window_places, zone_limit_in, window_limit_in, generation_in, counted, new_table};
+ghost use Rattle.table.specs.Limits.{rules_of};
 
+use crate::Limits;
 use word::or_zero::u8_at;
 
 // How many bytes a table has.
@@ -74,6 +76,28 @@ pub fn window_count(table: &[u8]) -> usize
     count_at(table, WINDOW_COUNT, MOST_WINDOWS)
 }
 
+// The places of the zones in use, in order.
+#[tactic(auto, using(crate::proofs::Places::zones_used, crate::proofs::Places::no_zones))]
+pub fn zones(table: &[u8]) -> &[[u8; ZONE_SIZE]]
+    ensures { result.now ≡ zone_places table.now }
+{
+    let Some(places) = table.get(ZONES..WINDOWS) else {
+        return &[];
+    };
+    &places.as_chunks().0[..zone_count(table)]
+}
+
+// The places of the windows in use, in order.
+#[tactic(auto, using(crate::proofs::Places::windows_used, crate::proofs::Places::no_windows))]
+pub fn windows(table: &[u8]) -> &[[u8; WINDOW_SIZE]]
+    ensures { result.now ≡ window_places table.now }
+{
+    let Some(places) = table.get(WINDOWS..SIZE) else {
+        return &[];
+    };
+    &places.as_chunks().0[..window_count(table)]
+}
+
 // How many zones the store takes.
 pub fn zone_limit(table: &[u8]) -> usize
     ensures { result ≡ zone_limit_in table.now }
@@ -104,12 +128,12 @@ pub(crate) fn count_change(table: &mut [u8])
 }
 
 // Writes a new table with these limits: no zone, no window and generation 0; on a slice that is too short nothing is written.
-pub fn put_new(table: &mut [u8], zone_limit: u8, window_limit: u8)
-    ensures { table.new ≡ new_table table.old (record { zone_limit = zone_limit; window_limit = window_limit }) }
+pub fn put_new(table: &mut [u8], limits: Limits)
+    ensures { table.new ≡ new_table table.old (rules_of limits) }
 {
     if SIZE <= table.len() {
-        table[ZONE_LIMIT] = zone_limit;
-        table[WINDOW_LIMIT] = window_limit;
+        table[ZONE_LIMIT] = limits.zones;
+        table[WINDOW_LIMIT] = limits.windows;
         table[ZONE_COUNT..SIZE].fill(0);
     }
 }

@@ -10,11 +10,32 @@ pub mod write;
 ghost use Rattle.std.specs.Prelude.{◌≡◌, ◌&&◌, nat_le, []};
 ghost use Rattle.model.specs.Rules.{allowed};
 ghost use Rattle.table.specs.Layout.{with_windows, counted};
+ghost use Rattle.table.specs.Limits.{limits_of};
 ghost use Rattle.table.specs.Left.{new_said, new_left, time_zone_said, time_zone_left, empties, dst_offset_said, dst_offset_left, load_said, load_left, reset_left};
 
 use layout::{MOST_WINDOWS, MOST_ZONES, SIZE, WINDOW_COUNT, ZONE_COUNT, count_change};
 use model::Refusal;
 use word::or_zero::{put_u8, u8_at};
+
+// The limits of a list store: how many zones it takes, and how many windows.
+#[derive(Clone, Copy, PartialEq, Eq)]
+pub struct Limits {
+    pub zones: u8,
+    pub windows: u8,
+}
+
+impl Limits {
+    // These limits, where a store can have them.
+    #[tactic(auto, unfolding(model::specs::Rules::allowed))]
+    pub fn of(zone_limit: usize, window_limit: usize) -> Option<Limits>
+        ensures { result ≡ limits_of (record { zone_limit = zone_limit; window_limit = window_limit }) }
+    {
+        allowed(zone_limit, window_limit).then(|| Limits {
+            zones: zone_limit as u8,
+            windows: window_limit as u8,
+        })
+    }
+}
 
 // Whether a limit is one that `most` places allow.
 fn is_limit(limit: usize, most: usize) -> bool
@@ -24,6 +45,7 @@ fn is_limit(limit: usize, most: usize) -> bool
 }
 
 // Whether a store can be made with these limits.
+#[tactic(auto, unfolding(model::specs::Rules::allowed))]
 pub fn allowed(zone_limit: usize, window_limit: usize) -> bool
     ensures { result ≡ allowed (record { zone_limit = zone_limit; window_limit = window_limit }) }
 {
@@ -31,14 +53,16 @@ pub fn allowed(zone_limit: usize, window_limit: usize) -> bool
 }
 
 // Makes a new store: these limits, no zone, no window and generation 0. The limits come one by one, as C hands them over.
+#[tactic(auto, unfolding(crate::specs::Left::makes))]
 pub fn new(table: &mut [u8], zone_limit: usize, window_limit: usize) -> Result<(), Refusal>
     ensures { (result ≡ new_said table.old (record { zone_limit = zone_limit; window_limit = window_limit }))
         × (table.new ≡ new_left table.old (record { zone_limit = zone_limit; window_limit = window_limit })) }
 {
-    if table.len() < SIZE || !allowed(zone_limit, window_limit) {
+    if table.len() < SIZE {
         return Err(Refusal::BadLimits);
     }
-    layout::put_new(table, zone_limit as u8, window_limit as u8);
+    let limits = Limits::of(zone_limit, window_limit).ok_or(Refusal::BadLimits)?;
+    layout::put_new(table, limits);
     Ok(())
 }
 
@@ -69,7 +93,7 @@ pub fn set_time_zone(table: &mut [u8], request: &[u8], room: usize) -> Result<()
 }
 
 // Whether windows that are turned down for this cause leave none.
-fn empties(cause: Refusal) -> bool
+pub fn empties(cause: Refusal) -> bool
     ensures { result ≡ empties cause }
 {
     matches!(cause, Refusal::ConstraintError | Refusal::ResourceExhausted)

@@ -1,10 +1,12 @@
 // The record of a table, written straight from its places.
-ghost use Rattle.std.specs.Prelude.{◌≡◌, ℕ, ◌+◌, ◌<◌, ◌≤◌, length, if◌then◌else◌, nat_le, nat_lt};
+ghost use Rattle.std.specs.Prelude.{◌≡◌, ℕ, ◌+◌, ◌<◌, ◌≤◌, cond, length, if◌then◌else◌, nat_le, nat_lt};
 ghost use Rattle.model.specs.Lists.{empty};
+ghost use Rattle.model.specs.Output.{too_short, copied_over};
+ghost use Rattle.model.specs.Store as S;
 ghost use Rattle.model.specs.Bytes.{zone_bytes, zones_bytes, windows_bytes, record_bytes};
 ghost use Rattle.word.specs.Place.{put};
 ghost use Rattle.record.specs.Written.{record_of};
-ghost use Rattle.table.specs.Layout.{zone_at, zone_place, zones_in, windows_in, lists_in, table_size};
+ghost use Rattle.table.specs.Layout.{zone_at, zone_place, zones_in, windows_in, lists_in, store_in, table_size};
 ghost use Rattle.table.specs.Held.{section_in};
 
 use crate::kind::{Kind, Windows, Zones};
@@ -72,6 +74,22 @@ pub fn record(table: &[u8]) -> Record
     let mut made = Record::BLANK;
     fill(&mut made, table);
     made
+}
+
+// The record of a table to the front of `out` where it has room, and its length; else nothing is written. Bytes that are no table have the
+// record of empty lists.
+pub fn put(table: &[u8], out: &mut [u8]) -> Option<usize>
+    ensures length { result ≡ cond (too_short (length out.old) (S.record_of (store_in table.now))) None (Some (length (S.record_of (store_in table.now)))) }
+    ensures copied { out.new ≡ cond (too_short (length out.old) (S.record_of (store_in table.now))) out.old (copied_over (S.record_of (store_in table.now)) out.old) }
+{
+    let mut made = Record::BLANK;
+    fill(&mut made, table);
+    let n = made.length;
+    if out.len() < n {
+        return None;
+    }
+    word::copy(out, 0, &made.bytes, 0, n);
+    Some(n)
 }
 
 // How many bytes the zone with index i is written as.
