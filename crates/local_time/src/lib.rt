@@ -1,8 +1,8 @@
 // Local time: UTC and the offsets of the active zone and of the last active window.
 #![tactic(auto)]
 
-ghost use Rattle.std.specs.Prelude.{◌≡◌, pos, ◌+ℤ◌, option_map, option_copied};
-ghost use Rattle.model.specs.LocalTime.{held, shown, local_moment, local_time};
+ghost use Rattle.std.specs.Prelude.{◌≡◌, option_map, option_copied};
+ghost use Rattle.model.specs.LocalTime.{shown, local_moment, local_time};
 ghost use Rattle.rtc.specs.Meaning.{reading_of};
 ghost use Rattle.table.specs.Layout.{lists_in};
 ghost use Rattle.local_time.specs.Meaning.{local_time_of};
@@ -12,26 +12,17 @@ use lookups::zones::zone_offset;
 use model::Refusal;
 use rtc::UtcTime;
 
-// A moment moved by a signed number, held at 0 and at the largest number.
-fn moved(utc: u64, by: i64) -> u64
-    ensures { result ≡ held (pos utc +ℤ by) }
-{
-    let size = by.unsigned_abs();
-    if by < 0 {
-        utc.saturating_sub(size)
-    } else {
-        utc.saturating_add(size)
-    }
-}
+// A second in microseconds.
+const SECOND: i64 = 1_000_000;
 
-// UTC moved by both offsets; the window's is that of the last active window, not of the first.
+// UTC moved by both offsets, held at 0 and at the largest number; the window's is that of the last active window, not of the first.
 #[tactic(auto, unfolding(model::specs::LocalTime::shown, model::specs::LocalTime::combined_offset))]
 fn shown(table: &[u8], utc: u64) -> u64
     ensures { result ≡ shown (lists_in table.now) utc }
 {
-    let zone = zone_offset(table, utc) as i64;
-    let window = last_active_dst_offset(table, utc).unwrap_or(0) as i64;
-    moved(utc, (zone + window) * 1_000_000)
+    let zone = i64::from(zone_offset(table, utc));
+    let window = last_active_dst_offset(table, utc).map_or(0, i64::from);
+    utc.saturating_add_signed((zone + window) * SECOND)
 }
 
 // What the lists show: null where no window is usable, active or not.
@@ -46,11 +37,9 @@ fn local_moment(table: &[u8], utc: u64) -> Option<u64>
 pub fn local_time(reading: UtcTime, table: Option<&[u8]>) -> Result<Option<u64>, Refusal>
     ensures { local_time_of result ≡ local_time (reading_of reading) (option_map (λ t. lists_in t) (option_copied table.entry)) }
 {
-    match reading {
-        UtcTime::LastKnown(_) => Ok(None),
-        UtcTime::Reliable(utc) => {
-            let table = table.ok_or(Refusal::AttributeNotFound)?;
-            Ok(local_moment(table, utc))
-        }
-    }
+    let Some(utc) = reading.reliable() else {
+        return Ok(None);
+    };
+    let table = table.ok_or(Refusal::AttributeNotFound)?;
+    Ok(local_moment(table, utc))
 }

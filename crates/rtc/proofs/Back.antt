@@ -4,7 +4,7 @@ use Rattle.std.proofs.Common.{◌≡◌, ap, arith, sym, ◌∙◌}
 use Rattle.std.proofs.lemmas.Grind.{common_steps}
 use Rattle.std.proofs.lemmas.List.{append_cancel_left}
 use Rattle.rtc.specs.declared.TrustedTimeSource as T
-use Rattle.rtc.specs.Meaning.{option_source, clock_of, maybe_source, rtc_of, load_answer_of, moment_stored, change_effects, stored_effects}
+use Rattle.rtc.specs.Meaning.{option_source, clock_of, maybe_source, rtc_of, moment_stored, stored_effects}
 use Rattle.rtc.specs.Laws.{RtcBack, Injective, OneResult}
 
 -- ## The clock
@@ -20,14 +20,8 @@ one_rtc a b e = sym (rtc_back a) ∙ ap rtc_of e ∙ rtc_back b
 
 -- ## Parts of the answers
 
-one_answer : Injective load_answer_of
-one_answer a b e = grind (arith, common_steps)
-
 one_stored : Injective moment_stored
 one_stored a b e = grind (arith, common_steps)
-
-one_change : Injective change_effects
-one_change a b e = grind (arith, common_steps)
 
 one_storing : Injective stored_effects
 one_storing a b e = grind (arith, common_steps)
@@ -41,9 +35,8 @@ one_result =
       rtc = one_rtc;
       utc_time = λ a b e. grind (arith, common_steps);
       reset = λ a b e. grind (arith, one_rtc);
-      loaded = λ a b e. grind (arith, one_rtc, one_answer);
+      loaded = λ c a b e. grind (arith, one_rtc);
       utc_time_set = λ a b e. grind (arith, one_rtc);
       utc_time_persisted = λ a b e. grind (arith, one_rtc, one_stored, append_cancel_left);
-      source_set = λ a b e. grind (arith, one_rtc, one_change);
       source_persisted = λ a b e. grind (arith, one_rtc, one_storing);
     }

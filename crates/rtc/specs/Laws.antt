@@ -1,9 +1,9 @@
 -- What holds of the meanings; what holds of the clock itself stands in `model` (ClockLaws).
 use Rattle.std.specs.Prelude.{◌≡◌, ℕ, ◌≤◌}
 use Rattle.model.specs.Claims.{NotBefore}
-use Rattle.model.specs.Clock.{reading}
+use Rattle.model.specs.Clock.{Clock, reading}
 use Rattle.rtc.specs.declared.Rtc.{Rtc}
-use Rattle.rtc.specs.Meaning.{clock_of, rtc_of, option_source, reading_of, reset_of, loaded_of, utc_time_set_of, utc_time_persisted_of, source_set_of, source_persisted_of}
+use Rattle.rtc.specs.Meaning.{clock_of, rtc_of, option_source, reading_of, reset_of, loaded_of, utc_time_set_of, utc_time_persisted_of, source_persisted_of}
 
 -- ## A contract that equates meanings leaves one result: proofs/Back.antt
 
@@ -22,10 +22,9 @@ pub record OneResult : Type 0 where
   pub rtc : Injective clock_of
   pub utc_time : Injective reading_of
   pub reset : Injective reset_of
-  pub loaded : Injective loaded_of
+  pub loaded : (c : Clock) → Injective (loaded_of c)
   pub utc_time_set : Injective utc_time_set_of
   pub utc_time_persisted : Injective utc_time_persisted_of
-  pub source_set : Injective source_set_of
   pub source_persisted : Injective source_persisted_of
 
 -- ## Readings: proofs/Readings.antt

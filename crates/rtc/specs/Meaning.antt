@@ -1,23 +1,19 @@
--- What the records of this crate stand for in the definitions. Each is injective, so a contract that equates meanings leaves one result.
-use Rattle.std.specs.Prelude.{Bool, not, List, [], ◌∷◌, ◌++◌, ℕ, Option, None, Some, Ok, Err, is_some}
+-- What the records of this crate stand for in the definitions. Each is injective, but for `source_set_of`, beside which a contract has
+-- `source_persisted_of`; so a contract that equates meanings leaves one result.
+use Rattle.std.specs.Prelude.{Bool, List, [], ◌∷◌, ◌++◌, ℕ, Option, None, Some, Ok, Err, is_some}
 use Rattle.std.specs.Prelude.{Result as StdResult}
-use Rattle.model.specs.Basics.{when}
-use Rattle.model.specs.Answers.{Done, done, refused, answers, TrustedTimeSource, MissingTrustedTimeSource, TrustedSource, Effect, report, emit, store_moment, remove_moment, store_source, remove_source, Result}
+use Rattle.model.specs.Answers.{done, answers, TrustedTimeSource, MissingTrustedTimeSource, TrustedSource, Effect, report, emit, store_moment, remove_moment, store_source, remove_source, Result, unchanged}
 use Rattle.model.specs.Clock.{Clock, Reading, reliable, last_known, utc_reports, Persisted}
 use Rattle.model.specs.declared.Refusal.{Refusal}
 use Rattle.rtc.specs.declared.TrustedTimeSource as T
 use Rattle.rtc.specs.declared.Rtc.{Rtc}
 use Rattle.rtc.specs.declared.UtcTime.{UtcTime}
 use Rattle.rtc.specs.declared.UtcTime.TheVariants.{Reliable, LastKnown}
-use Rattle.rtc.specs.declared.Loaded.{Loaded}
 use Rattle.rtc.specs.declared.UtcTimeSet.{UtcTimeSet}
 use Rattle.rtc.specs.declared.UtcTimePersisted.{UtcTimePersisted}
 use Rattle.rtc.specs.declared.SourceChange.{SourceChange}
 use Rattle.rtc.specs.declared.SourceChange.TheVariants as C
 use Rattle.rtc.specs.declared.SourceSet.{SourceSet}
-use Rattle.rtc.specs.declared.SourceStored.{SourceStored}
-use Rattle.rtc.specs.declared.SourceStored.TheVariants as S
-use Rattle.rtc.specs.declared.SourcePersisted.{SourcePersisted}
 
 -- ## The clock
 
@@ -48,7 +44,7 @@ clock_of r =
 abbrev pub trusted_time_source_of : TrustedSource → T.TrustedTimeSource
 trusted_time_source_of s = record { fab_idx = s.fabric; node_id = s.node; endpoint = s.endpoint }
 
--- the enum of a trusted source, or of none
+-- the struct of a trusted source, or none
 abbrev pub maybe_source : Option TrustedSource → Option T.TrustedTimeSource
 maybe_source None = None
 maybe_source (Some s) = Some (trusted_time_source_of s)
@@ -76,14 +72,10 @@ reading_of (LastKnown moment) = last_known moment
 abbrev pub reset_of : Rtc → Result Clock (Unit {0})
 reset_of r = record { state = clock_of r; answer = done; effects = remove_moment ∷ remove_source ∷ [] }
 
--- whether a load was taken, and why not
-abbrev pub load_answer_of : StdResult (Unit {0}) Refusal → Done
-load_answer_of (Ok tt) = done
-load_answer_of (Err cause) = refused cause
-
--- a load asks for nothing
-abbrev pub loaded_of : Loaded → Result Clock (Unit {0})
-loaded_of r = record { state = clock_of r.rtc; answer = load_answer_of r.answer; effects = [] }
+-- a load asks for nothing; one that is refused leaves the clock before as it is
+abbrev pub loaded_of : Clock → StdResult Rtc Refusal → Result Clock (Unit {0})
+loaded_of c (Ok r) = record { state = clock_of r; answer = done; effects = [] }
+loaded_of c (Err cause) = unchanged c cause
 
 -- a setting answers whether something changed, and always reports
 abbrev pub utc_time_set_of : UtcTimeSet → Result Clock Bool
@@ -103,14 +95,10 @@ utc_time_persisted_of r =
       effects = utc_reports ++ moment_stored (r.stored);
     }
 
--- what a different source reports, and emits where it is none
-abbrev pub different_reports : Option TrustedSource → List Effect
-different_reports source = report TrustedTimeSource ∷ when (not (is_some source)) (emit MissingTrustedTimeSource)
-
 -- what each change of the source reports and emits
 abbrev pub change_effects : SourceChange → List Effect
 change_effects C.Same = []
-change_effects C.Installed = report TrustedTimeSource ∷ []
+change_effects (C.Installed t) = report TrustedTimeSource ∷ []
 change_effects C.Cleared = report TrustedTimeSource ∷ emit MissingTrustedTimeSource ∷ []
 
 -- setting the trusted source answers no more than that it was taken
@@ -118,11 +106,11 @@ abbrev pub source_set_of : SourceSet → Result Clock (Unit {0})
 source_set_of r = record { state = clock_of r.rtc; answer = done; effects = change_effects r.change }
 
 -- what each change reports and emits, and then stores or removes
-abbrev pub stored_effects : SourceStored → List Effect
-stored_effects S.Same = []
-stored_effects (S.Stored t) = report TrustedTimeSource ∷ store_source (trusted_of t) ∷ []
-stored_effects S.Removed = report TrustedTimeSource ∷ emit MissingTrustedTimeSource ∷ remove_source ∷ []
+abbrev pub stored_effects : SourceChange → List Effect
+stored_effects C.Same = []
+stored_effects (C.Installed t) = report TrustedTimeSource ∷ store_source (trusted_of t) ∷ []
+stored_effects C.Cleared = report TrustedTimeSource ∷ emit MissingTrustedTimeSource ∷ remove_source ∷ []
 
 -- and so does setting and storing it
-abbrev pub source_persisted_of : SourcePersisted → Result Clock (Unit {0})
-source_persisted_of r = record { state = clock_of r.rtc; answer = done; effects = stored_effects r.stored }
+abbrev pub source_persisted_of : SourceSet → Result Clock (Unit {0})
+source_persisted_of r = record { state = clock_of r.rtc; answer = done; effects = stored_effects r.change }

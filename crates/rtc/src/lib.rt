@@ -6,14 +6,14 @@ ghost use Rattle.std.specs.Prelude.{◌≡◌};
 ghost use Rattle.model.specs.Clock.{fresh, reset_persist, reading, reliable_moment, granularity_read, source_read};
 ghost use Rattle.rtc.specs.Meaning.{clock_of, reading_of, reset_of};
 
-use model::{Refusal, TimeGranularity, TimeSource};
+use model::{TimeGranularity, TimeSource};
 
 mod load;
 mod setting;
 mod trusted;
 
 // The fabric that installed the source, a node of that fabric, and the endpoint of the node that tells the time.
-#[derive(Clone, Copy, PartialEq, Eq)]
+#[derive(Clone, Copy, Default, PartialEq, Eq)]
 pub struct TrustedTimeSource {
     pub fab_idx: u8,
     pub node_id: u64,
@@ -40,12 +40,6 @@ pub enum UtcTime {
     LastKnown(u64),
 }
 
-#[derive(Clone, Copy)]
-pub struct Loaded {
-    pub rtc: Rtc,
-    pub answer: Result<(), Refusal>,
-}
-
 // The clock after a setting, which is always to be reported, and whether something changed.
 #[derive(Clone, Copy)]
 pub struct UtcTimeSet {
@@ -61,11 +55,11 @@ pub struct UtcTimePersisted {
     pub stored: Option<u64>,
 }
 
-// What became of the trusted time source.
+// What became of the trusted time source. In flash an installed one is stored, and a cleared one removed.
 #[derive(Clone, Copy)]
 pub enum SourceChange {
     Same,
-    Installed,
+    Installed(TrustedTimeSource),
     Cleared,
 }
 
@@ -73,20 +67,6 @@ pub enum SourceChange {
 pub struct SourceSet {
     pub rtc: Rtc,
     pub change: SourceChange,
-}
-
-// What becomes of the trusted time source in flash.
-#[derive(Clone, Copy)]
-pub enum SourceStored {
-    Same,
-    Stored(TrustedTimeSource),
-    Removed,
-}
-
-#[derive(Clone, Copy)]
-pub struct SourcePersisted {
-    pub rtc: Rtc,
-    pub stored: SourceStored,
 }
 
 impl UtcTime {

@@ -3,7 +3,7 @@ ghost use Rattle.std.specs.Prelude.{◌≡◌};
 ghost use Rattle.model.specs.Clock.{load};
 ghost use Rattle.rtc.specs.Meaning.{clock_of, option_source, loaded_of};
 
-use crate::{Loaded, Rtc, TrustedTimeSource};
+use crate::{Rtc, TrustedTimeSource};
 use model::Refusal;
 
 impl Rtc {
@@ -14,25 +14,19 @@ impl Rtc {
         build: u64,
         stored: Option<u64>,
         source: Option<TrustedTimeSource>,
-    ) -> Loaded
-        ensures { loaded_of result ≡ load build (clock_of self) stored (option_source source) }
+    ) -> Result<Rtc, Refusal>
+        ensures { loaded_of (clock_of self) result ≡ load build (clock_of self) stored (option_source source) }
     {
         if source.is_some_and(|s| s.fab_idx == 0) {
-            return Loaded {
-                rtc: self,
-                answer: Err(Refusal::BadRecord),
-            };
+            return Err(Refusal::BadRecord);
         }
         // Of the clock before nothing is left, not its anchor either.
         let moment = stored.unwrap_or(build);
-        Loaded {
-            rtc: Rtc {
-                utc_us: moment.max(build),
-                utc_us_persisted: moment,
-                trusted_time_source: source,
-                ..Rtc::new(build)
-            },
-            answer: Ok(()),
-        }
+        Ok(Rtc {
+            utc_us: moment.max(build),
+            utc_us_persisted: moment,
+            trusted_time_source: source,
+            ..Rtc::new(build)
+        })
     }
 }

@@ -2,11 +2,12 @@
 #![tactic(auto)]
 
 ghost use Rattle.std.specs.Prelude.{◌≡◌};
+ghost use Rattle.std.specs.Result.{result_map_both};
 ghost use Rattle.model.specs.Clock.{reset_persist, load, set_utc_time, set_utc_time_persist, set_trusted_time_source_persist};
 ghost use Rattle.rtc.specs.Meaning.{clock_of, option_source, reset_of, loaded_of, utc_time_set_of, utc_time_persisted_of, source_persisted_of};
 
 use model::{Refusal, TimeGranularity, TimeSource};
-use rtc::{Rtc, SourceStored, TrustedTimeSource};
+use rtc::{Rtc, SourceChange, SourceSet, TrustedTimeSource, UtcTimePersisted, UtcTimeSet};
 
 // What a persisting setting answers: whether something changed, and the moment that is to be stored.
 #[derive(Clone, Copy)]
@@ -29,12 +30,11 @@ pub fn load_persist(
     stored: Option<u64>,
     source: Option<TrustedTimeSource>,
 ) -> Result<(), Refusal>
-    ensures { loaded_of (record { rtc = rtc.new; answer = result })
+    ensures { loaded_of (clock_of rtc.new) (result_map_both (λ done. rtc.new) (λ cause. cause) result)
         ≡ load build (clock_of rtc.old) stored (option_source source) }
 {
-    let loaded = rtc.load_persist(build, stored, source);
-    *rtc = loaded.rtc;
-    loaded.answer
+    *rtc = rtc.load_persist(build, stored, source)?;
+    Ok(())
 }
 
 // Sets the UTC time and anchors it at the tick, also where nothing changes; answers whether something did.
@@ -48,9 +48,9 @@ pub fn set_utc_time(
     ensures { utc_time_set_of (record { rtc = rtc.new; changed = result })
         ≡ set_utc_time (clock_of rtc.old) utc_us granularity source tick }
 {
-    let done = rtc.set_utc_time(utc_us, granularity, source, tick);
-    *rtc = done.rtc;
-    done.changed
+    let UtcTimeSet { rtc: next, changed } = rtc.set_utc_time(utc_us, granularity, source, tick);
+    *rtc = next;
+    changed
 }
 
 // Sets the UTC time, and has a moment stored that is a day or more from the persisted one.
@@ -64,23 +64,21 @@ pub fn set_utc_time_persist(
     ensures { utc_time_persisted_of (record { rtc = rtc.new; changed = result.changed; stored = result.stored })
         ≡ set_utc_time_persist (clock_of rtc.old) utc_us granularity source tick }
 {
-    let done = rtc.set_utc_time_persist(utc_us, granularity, source, tick);
-    *rtc = done.rtc;
-    UtcTimePersistAnswer {
-        changed: done.changed,
-        stored: done.stored,
-    }
+    let UtcTimePersisted {
+        rtc: next,
+        changed,
+        stored,
+    } = rtc.set_utc_time_persist(utc_us, granularity, source, tick);
+    *rtc = next;
+    UtcTimePersistAnswer { changed, stored }
 }
 
-// Installs or clears the trusted time source, and has it stored or removed.
-pub fn set_trusted_time_source_persist(
-    rtc: &mut Rtc,
-    source: Option<TrustedTimeSource>,
-) -> SourceStored
-    ensures { source_persisted_of (record { rtc = rtc.new; stored = result })
+// Installs or clears the trusted time source; answers what became of it, and with that what to store or remove.
+pub fn set_trusted_time_source(rtc: &mut Rtc, source: Option<TrustedTimeSource>) -> SourceChange
+    ensures { source_persisted_of (record { rtc = rtc.new; change = result })
         ≡ set_trusted_time_source_persist (clock_of rtc.old) (option_source source) }
 {
-    let done = rtc.set_trusted_time_source_persist(source);
-    *rtc = done.rtc;
-    done.stored
+    let SourceSet { rtc: next, change } = rtc.set_trusted_time_source(source);
+    *rtc = next;
+    change
 }
