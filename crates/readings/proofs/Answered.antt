@@ -1,6 +1,5 @@
 -- What is read of an image, out of its table, or the refusal. The checks of the readings rewrite by these.
-use Rattle.std.specs.Prelude.{Bool, option_copied, is_some, unwrap_or}
-use mir.Val.{bool_byte}
+use Rattle.std.specs.Prelude.{option_copied}
 use Rattle.std.specs.Result.{result_ok}
 use Rattle.std.proofs.Common.{◌≡◌, ℕ, ◌≤◌, max, List, [], ◌∷◌, length, Option, None, Some, Result, Ok, Err, Bor, true, MatchResult, option_map, refl, sym, ap, ◌∙◌, arith}
 use Rattle.model.specs.declared.Refusal.{Refusal}
@@ -11,7 +10,6 @@ use Rattle.model.specs.Lookups as L
 use Rattle.model.specs.Clock as C
 use Rattle.model.specs.LocalTime as M
 use Rattle.model.specs.Walk.{walk}
-use Rattle.model.specs.Output.{mark_of, or_zero}
 use Rattle.model.specs.Store.{Store, record_of}
 use Rattle.model.specs.Handler as H
 use Rattle.model.proofs.Facts.{by_test}
@@ -26,7 +24,8 @@ use Rattle.image.specs.Layout.{is_image, table_in}
 use Rattle.image.specs.Parts.{has_lists, clock_in, device_in}
 use Rattle.image.specs.Asked.{asked}
 use Rattle.image.proofs.Alone.{table_long}
-use Rattle.readings.specs.There.{table_read}
+use Rattle.local_time.specs.Meaning.{local_time_of}
+use Rattle.readings.specs.There.{table_read, told}
 
 -- where there is a table it has all its bytes
 pub table_sized : (s t : List ℕ) → table_read s ≡ answers t → table_size ≤ length t
@@ -103,6 +102,18 @@ module _ (s : List ℕ) where
   unfolding H.table_empty
   table_empty_is = store_is _ _ s (λ t. refl)
 
+  pub usable_is : (now : ℕ) → asked s (H.usable (device_in s) now) ≡ of_table (λ t. answers (L.usable (lists_in t) now)) (table_read s)
+  unfolding H.usable
+  usable_is now = store_is _ _ s (λ t. refl)
+
+  pub active_offset_is : (now : ℕ) → asked s (H.active_offset (device_in s) now) ≡ of_table (λ t. answers (L.active_offset (lists_in t) now)) (table_read s)
+  unfolding H.active_offset
+  active_offset_is now = store_is _ _ s (λ t. refl)
+
+  pub next_transition_is : (now : ℕ) → asked s (H.next_transition (device_in s) now) ≡ of_table (λ t. answers (L.next_transition (lists_in t) now)) (table_read s)
+  unfolding H.next_transition
+  next_transition_is now = store_is _ _ s (λ t. refl)
+
   -- ## With an argument: what the table answers
 
   module _ (t : List ℕ) (e : table_read s ≡ answers t) where
@@ -129,10 +140,6 @@ module _ (s : List ℕ) where
     pub active_offset_answers : (now : ℕ) → asked s (H.active_offset (device_in s) now) ≡ answers (L.active_offset (lists_in t) now)
     unfolding H.active_offset
     active_offset_answers now = store_answers _ s t e
-
-    pub usable_answers : (now : ℕ) → asked s (H.usable (device_in s) now) ≡ answers (L.usable (lists_in t) now)
-    unfolding H.usable
-    usable_answers now = store_answers _ s t e
 
     pub next_transition_answers : (now : ℕ) → asked s (H.next_transition (device_in s) now) ≡ answers (L.next_transition (lists_in t) now)
     unfolding H.next_transition
@@ -161,6 +168,11 @@ local_lists s (Err cause) i e =
     (λ m. let q : answers (table_in s) ≡ refused cause = rw (i, m) at e in cc)
     (λ m. rw m)
 
+-- local time's answer means what it says
+pub told_local : (r : Result (Option ℕ) Refusal) → local_time_of r ≡ told r
+told_local (Ok moment) = refl
+told_local (Err cause) = refl
+
 -- an answer that is the local time of the clock's reading and of those lists
 pub local_time_is : (s : List ℕ) (tick : ℕ) (u : C.Reading) (o : Option (Bor (List ℕ))) (r : Result (Bor (List ℕ)) Refusal) (a : Answer (Option ℕ)) → is_image s ≡ true
     → MatchResult r (λ t. table_read s ≡ answers t.now) (λ cause. table_read s ≡ refused cause) → o ≡ result_ok r → u ≡ C.reading (clock_in s) tick
@@ -168,13 +180,3 @@ pub local_time_is : (s : List ℕ) (tick : ℕ) (u : C.Reading) (o : Option (Bor
 local_time_is s tick u o r a i h p q e =
     rw i (ap (M.local_time (C.reading (clock_in s) tick)) (local_lists s r i h ∙ sym (ap (λ (o : Option (Bor (List ℕ))). option_map (λ t. lists_in t) (option_copied o)) p))
     ∙ sym (ap (λ (u : C.Reading). M.local_time u (option_map (λ t. lists_in t) (option_copied o))) q) ∙ sym e)
-
--- ## The mark of a value, and the value or 0
-
-pub mark_is : {A : Type 0} (o : Option A) (b : Bool) → b ≡ is_some o → bool_byte b ≡ mark_of o
-mark_is None b e = rw e
-mark_is (Some x) b e = rw e
-
-pub zero_is : (o : Option ℕ) (n : ℕ) → n ≡ unwrap_or o 0 → n ≡ or_zero o
-zero_is None n e = e
-zero_is (Some x) n e = e

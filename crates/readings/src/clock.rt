@@ -2,16 +2,16 @@
 ghost use Rattle.std.specs.Prelude.{◌≡◌};
 ghost use Rattle.model.specs.Answers.{number_of};
 ghost use Rattle.model.specs.Clock as C;
-ghost use Rattle.model.specs.Numbers.{granularity_number, source_number};
 ghost use Rattle.model.specs.Output.{leaves, mark_of, or_zero};
 ghost use Rattle.rtc.specs.Meaning.{reading_of};
 ghost use Rattle.image.specs.Parts.{fabric_of, node_of, endpoint_of, clock_in};
 ghost use Rattle.readings.specs.Readings.{utc_time, reliable_mark, moment_of, granularity, time_source, trusted_time_source, local_time};
+ghost use Rattle.readings.specs.There.{told};
 
-use crate::{lists, refused};
+use crate::{held, lists, tell, tell_option};
 use image::codes::{BAD_LIMITS, TAKEN};
 use image::place::{CLOCK, is_image, mark_at};
-use model::{TimeGranularity, TimeSource};
+use model::{Refusal, TimeGranularity, TimeSource};
 use rtc::{Rtc, UtcTime};
 use word::or_zero::{u8_at, u16_at, u64_at};
 
@@ -45,29 +45,27 @@ fn reading(image: &[u8], tick: u64) -> UtcTime
     rtc.utc_time(tick)
 }
 
-// The number of the granularity, that of NoTime where the clock is not set or the code names nothing.
+// The granularity: NoTime where the clock is not set or the code names nothing.
 #[tactic(auto, unfolding(model::specs::Clock::granularity_read))]
-fn granularity(image: &[u8]) -> u64
-    ensures { result ≡ granularity_number (C.granularity_read (clock_in image.now)) }
+fn granularity(image: &[u8]) -> TimeGranularity
+    ensures { result ≡ C.granularity_read (clock_in image.now) }
 {
     if !mark_at(image, SET) {
-        return 0;
+        return TimeGranularity::NoTime;
     }
-    let code = TimeGranularity::try_from(u8_at(image, CLOCK));
-    u8::from(code.unwrap_or(TimeGranularity::NoTime)) as u64
+    TimeGranularity::try_from(u8_at(image, CLOCK)).unwrap_or(TimeGranularity::NoTime)
 }
 
-// The number of the time source, that of None where the clock is not set or the code names nothing. Not one generic function with the
-// one above: it would need a trait with laws for two callers, which is no plainer.
+// The time source: None where the clock is not set or the code names nothing. Not one generic function with the one above: it would
+// need a trait with laws for two callers, which is no plainer.
 #[tactic(auto, unfolding(model::specs::Clock::source_read))]
-fn source(image: &[u8]) -> u64
-    ensures { result ≡ source_number (C.source_read (clock_in image.now)) }
+fn source(image: &[u8]) -> TimeSource
+    ensures { result ≡ C.source_read (clock_in image.now) }
 {
     if !mark_at(image, SET) {
-        return 0;
+        return TimeSource::None;
     }
-    let code = TimeSource::try_from(u8_at(image, SOURCE));
-    u8::from(code.unwrap_or(TimeSource::None)) as u64
+    TimeSource::try_from(u8_at(image, SOURCE)).unwrap_or(TimeSource::None)
 }
 
 // The UTC time at a tick: whether it is reliable, and the current or the last known moment.
@@ -92,11 +90,8 @@ pub fn utc_time_granularity(image: &[u8], value: &mut u64) -> u64
     ensures { (result ≡ number_of (granularity image.now))
         × (value.new ≡ leaves (granularity image.now) (λ n. n) value.old) }
 {
-    if !is_image(image) {
-        return BAD_LIMITS;
-    }
-    *value = granularity(image);
-    TAKEN
+    let code = held(image).map(|image| u8::from(granularity(image)) as u64);
+    tell(code, value)
 }
 
 // TimeSource, by its number.
@@ -104,11 +99,8 @@ pub fn utc_time_source(image: &[u8], value: &mut u64) -> u64
     ensures { (result ≡ number_of (time_source image.now))
         × (value.new ≡ leaves (time_source image.now) (λ n. n) value.old) }
 {
-    if !is_image(image) {
-        return BAD_LIMITS;
-    }
-    *value = source(image);
-    TAKEN
+    let code = held(image).map(|image| u8::from(source(image)) as u64);
+    tell(code, value)
 }
 
 // TrustedTimeSource, or that there is none.
@@ -143,20 +135,17 @@ pub fn trusted_time_source(
 }
 
 // LocalTime at a tick, or null.
-pub fn local_time(image: &[u8], tick: u64, there: &mut u64, local_us: &mut u64) -> u64
-    ensures { (result ≡ number_of (local_time image.now tick))
-        × (there.new ≡ leaves (local_time image.now tick) mark_of there.old)
-        × (local_us.new ≡ leaves (local_time image.now tick) or_zero local_us.old) }
+fn local(image: &[u8], tick: u64) -> Result<Option<u64>, Refusal>
+    ensures { told result ≡ local_time image.now tick }
 {
-    if !is_image(image) {
-        return BAD_LIMITS;
-    }
-    match local_time::local_time(reading(image, tick), lists(image).ok()) {
-        Ok(local) => {
-            *there = local.is_some() as u64;
-            *local_us = local.unwrap_or(0);
-            TAKEN
-        }
-        Err(cause) => refused(cause),
-    }
+    let reading = reading(held(image)?, tick);
+    local_time::local_time(reading, lists(image).ok())
+}
+
+// The same, by C's mark and number.
+pub fn local_time(image: &[u8], tick: u64, there: &mut u64, local_us: &mut u64) -> u64
+    ensures { let r = local_time image.now tick in
+        (result ≡ number_of r) × (there.new ≡ leaves r mark_of there.old) × (local_us.new ≡ leaves r or_zero local_us.old) }
+{
+    tell_option(local(image, tick), 0, there, local_us)
 }

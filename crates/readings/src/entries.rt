@@ -5,7 +5,7 @@ ghost use Rattle.model.specs.Output.{leaves, leaves_copy, mark_of, or_zero, or_z
 ghost use Rattle.readings.specs.Readings.{zone_entry, zone_name, window_entry, active_zone, now_name, active_offset};
 ghost use Rattle.readings.specs.Stored.{showing, Stands};
 
-use crate::{lists, refused};
+use crate::{lists, refused, tell_option};
 use image::codes::{CONSTRAINT_ERROR, NO_SPACE, TAKEN};
 use lookups::windows::dst_offset_at;
 use lookups::zones::time_zone_at;
@@ -129,18 +129,11 @@ pub fn active_time_zone(
 }
 
 // The offset of the first active window, or that none is active.
-#[tactic(auto, using(crate::proofs::Answered::active_offset_answers))]
 pub fn active_dst_offset(image: &[u8], utc: u64, there: &mut u64, offset: &mut i32) -> u64
     ensures { (result ≡ number_of (active_offset image.now utc))
         × (there.new ≡ leaves (active_offset image.now utc) mark_of there.old)
         × (offset.new ≡ leaves (active_offset image.now utc) or_zeroℤ offset.old) }
 {
-    let table = match lists(image) {
-        Ok(table) => table,
-        Err(cause) => return refused(cause),
-    };
-    let active = lookups::windows::active_dst_offset(table, utc);
-    *there = active.is_some() as u64;
-    *offset = active.unwrap_or(0);
-    TAKEN
+    let active = lists(image).map(move |table| lookups::windows::active_dst_offset(table, utc));
+    tell_option(active, 0, there, offset)
 }

@@ -4,8 +4,7 @@ ghost use Rattle.model.specs.Answers.{number_of};
 ghost use Rattle.model.specs.Output.{leaves, truth};
 ghost use Rattle.readings.specs.Readings.{zones_listed, windows_listed, zone_limit, window_limit, database, generation, usable, table_empty};
 
-use crate::{lists, refused};
-use image::codes::TAKEN;
+use crate::{lists, tell};
 use table::layout::{window_count, window_limit, zone_count, zone_limit};
 
 // TimeZoneDatabase None: no zone is known by its name.
@@ -17,12 +16,10 @@ pub fn time_zone_count(image: &[u8], value: &mut u64) -> u64
     ensures { (result ≡ number_of (zones_listed image.now))
         × (value.new ≡ leaves (zones_listed image.now) (λ n. n) value.old) }
 {
-    let table = match lists(image) {
-        Ok(table) => table,
-        Err(cause) => return refused(cause),
-    };
-    *value = zone_count(table).max(1) as u64;
-    TAKEN
+    tell(
+        lists(image).map(|table| zone_count(table).max(1) as u64),
+        value,
+    )
 }
 
 // DSTOffset: how many windows there are.
@@ -31,12 +28,7 @@ pub fn dst_offset_count(image: &[u8], value: &mut u64) -> u64
     ensures { (result ≡ number_of (windows_listed image.now))
         × (value.new ≡ leaves (windows_listed image.now) (λ n. n) value.old) }
 {
-    let table = match lists(image) {
-        Ok(table) => table,
-        Err(cause) => return refused(cause),
-    };
-    *value = window_count(table) as u64;
-    TAKEN
+    tell(lists(image).map(|table| window_count(table) as u64), value)
 }
 
 // TimeZoneListMaxSize.
@@ -45,12 +37,7 @@ pub fn time_zone_list_max_size(image: &[u8], value: &mut u64) -> u64
     ensures { (result ≡ number_of (zone_limit image.now))
         × (value.new ≡ leaves (zone_limit image.now) (λ n. n) value.old) }
 {
-    let table = match lists(image) {
-        Ok(table) => table,
-        Err(cause) => return refused(cause),
-    };
-    *value = zone_limit(table) as u64;
-    TAKEN
+    tell(lists(image).map(|table| zone_limit(table) as u64), value)
 }
 
 // DSTOffsetListMaxSize.
@@ -59,12 +46,7 @@ pub fn dst_offset_list_max_size(image: &[u8], value: &mut u64) -> u64
     ensures { (result ≡ number_of (window_limit image.now))
         × (value.new ≡ leaves (window_limit image.now) (λ n. n) value.old) }
 {
-    let table = match lists(image) {
-        Ok(table) => table,
-        Err(cause) => return refused(cause),
-    };
-    *value = window_limit(table) as u64;
-    TAKEN
+    tell(lists(image).map(|table| window_limit(table) as u64), value)
 }
 
 // TimeZoneDatabase.
@@ -73,11 +55,7 @@ pub fn time_zone_database(image: &[u8], value: &mut u64) -> u64
     ensures { (result ≡ number_of (database image.now))
         × (value.new ≡ leaves (database image.now) (λ n. n) value.old) }
 {
-    if let Err(cause) = lists(image) {
-        return refused(cause);
-    }
-    *value = NO_DATABASE;
-    TAKEN
+    tell(lists(image).map(|_| NO_DATABASE), value)
 }
 
 // How many changes of the lists there were.
@@ -86,26 +64,21 @@ pub fn generation(image: &[u8], value: &mut u64) -> u64
     ensures { (result ≡ number_of (generation image.now))
         × (value.new ≡ leaves (generation image.now) (λ n. n) value.old) }
 {
-    let table = match lists(image) {
-        Ok(table) => table,
-        Err(cause) => return refused(cause),
-    };
-    *value = table::layout::generation(table) as u64;
-    TAKEN
+    tell(
+        lists(image).map(|table| table::layout::generation(table) as u64),
+        value,
+    )
 }
 
 // Whether some window is open or ends after now.
-#[tactic(auto, using(crate::proofs::Answered::usable_answers))]
 pub fn dst_usable(image: &[u8], utc: u64, value: &mut u64) -> u64
     ensures { (result ≡ number_of (usable image.now utc))
         × (value.new ≡ leaves (usable image.now utc) truth value.old) }
 {
-    let table = match lists(image) {
-        Ok(table) => table,
-        Err(cause) => return refused(cause),
-    };
-    *value = lookups::windows::dst_usable(table, utc) as u64;
-    TAKEN
+    tell(
+        lists(image).map(move |table| lookups::windows::dst_usable(table, utc) as u64),
+        value,
+    )
 }
 
 // Whether there is no window at all.
@@ -114,10 +87,8 @@ pub fn dst_table_empty(image: &[u8], value: &mut u64) -> u64
     ensures { (result ≡ number_of (table_empty image.now))
         × (value.new ≡ leaves (table_empty image.now) truth value.old) }
 {
-    let table = match lists(image) {
-        Ok(table) => table,
-        Err(cause) => return refused(cause),
-    };
-    *value = lookups::windows::dst_table_empty(table) as u64;
-    TAKEN
+    tell(
+        lists(image).map(|table| lookups::windows::dst_table_empty(table) as u64),
+        value,
+    )
 }

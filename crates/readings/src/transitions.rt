@@ -6,7 +6,7 @@ ghost use Rattle.model.specs.Store.{record_of};
 ghost use Rattle.table.specs.Layout.{table_size, store_in};
 ghost use Rattle.readings.specs.Readings.{next_transition, walked, walk_bytes, record_read, record_bytes};
 
-use crate::{lists, refused};
+use crate::{lists, refused, tell_option};
 use image::codes::{NO_SPACE, TAKEN};
 use record::Record;
 
@@ -14,20 +14,13 @@ use record::Record;
 const MOMENT: usize = 8;
 
 // The smallest start or end after now, or that there is none.
-#[tactic(auto, using(crate::proofs::Answered::next_transition_answers))]
 pub fn next_transition(image: &[u8], utc: u64, there: &mut u64, moment: &mut u64) -> u64
     ensures { (result ≡ number_of (next_transition image.now utc))
         × (there.new ≡ leaves (next_transition image.now utc) mark_of there.old)
         × (moment.new ≡ leaves (next_transition image.now utc) or_zero moment.old) }
 {
-    let table = match lists(image) {
-        Ok(table) => table,
-        Err(cause) => return refused(cause),
-    };
-    let next = lookups::transitions::next_transition(table, utc);
-    *there = next.is_some() as u64;
-    *moment = next.unwrap_or(0);
-    TAKEN
+    let next = lists(image).map(move |table| lookups::transitions::next_transition(table, utc));
+    tell_option(next, 0, there, moment)
 }
 
 // The walk: its moments to the front of `moments`, 8 bytes each and the starting moment first, and the number of steps.

@@ -1,9 +1,7 @@
 -- `readings::store::dst_usable` meets its contract.
-use Rattle.std.proofs.Common.{refl}
-use Rattle.model.specs.Handler as H
-use Rattle.readings.proofs.Answered.{store_refused}
+use Rattle.std.proofs.Common.{rules}
+use Rattle.readings.proofs.Answered.{usable_is}
 use Rattle.readings.proofs.store.dst_usable.Goals as goal
 
-pub returns-in-Err : goal.returns-in-Err
-unfolding H.usable
-returns-in-Err c = rw (store_refused _ c.args.image.now c.in-Err.cause c.in-Err.ensures) (c.refused.ensures, refl)
+pub returns : goal.returns
+returns c = rw (usable_is c.args.image.now c.args.utc) (search rules)

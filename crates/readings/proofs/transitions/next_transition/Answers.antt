@@ -1,9 +1,7 @@
 -- `readings::transitions::next_transition` meets its contract.
-use Rattle.std.proofs.Common.{refl}
-use Rattle.model.specs.Handler as H
-use Rattle.readings.proofs.Answered.{store_refused}
+use Rattle.std.proofs.Common.{rules}
+use Rattle.readings.proofs.Answered.{next_transition_is}
 use Rattle.readings.proofs.transitions.next_transition.Goals as goal
 
-pub returns-in-Err : goal.returns-in-Err
-unfolding H.next_transition
-returns-in-Err c = rw (store_refused _ c.args.image.now c.in-Err.cause c.in-Err.ensures) (c.refused.ensures, refl, refl)
+pub returns : goal.returns
+returns c = rw (next_transition_is c.args.image.now c.args.utc) (search rules)
