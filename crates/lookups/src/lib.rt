@@ -5,7 +5,8 @@ pub mod transitions;
 pub mod windows;
 pub mod zones;
 
-ghost use Rattle.std.specs.Prelude.{suc, ◌≡◌, take, option_copied};
+ghost use Rattle.std.specs.Prelude.{suc, ◌≡◌, cond, length, take, option_copied, None, Some};
+ghost use Rattle.model.specs.Output.{too_short, copied_over, name_or};
 ghost use Rattle.lookups.specs.Laws.{shown_name};
 
 pub use record::NamePlace;
@@ -58,5 +59,17 @@ impl ZoneShown {
         let place = self.name?;
         let rest = table.get(place.at..).unwrap_or_default();
         Some(rest.get(..place.len).unwrap_or(rest))
+    }
+
+    // The name to the front of `out` where it has room, and how long it is; else nothing is written.
+    #[tactic(auto, using(word::proofs::Writes::placed_front))]
+    pub fn put_name(&self, table: &[u8], out: &mut [u8]) -> Option<usize>
+        ensures length { let n = name_or (shown_name table.now self.now) in
+            result ≡ cond (too_short (length out.old) n) None (Some (length n)) }
+        ensures copied { let n = name_or (shown_name table.now self.now) in
+            out.new ≡ cond (too_short (length out.old) n) out.old (copied_over n out.old) }
+    {
+        let name = self.name_in(table).unwrap_or_default();
+        word::put(out, 0, name).then_some(name.len())
     }
 }

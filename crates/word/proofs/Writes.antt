@@ -9,7 +9,9 @@ use native.Mathlib.Omega.{arith}
 use lib.ListN.{length, take, drop, set, get_or, replicate, length-append, take-append-drop, length-replicate}
 use lib.Seq.{take-suc}
 use Rattle.model.specs.Bytes.{bytes, all_bytes}
-use Rattle.model.specs.Output.{copied_over}
+use Rattle.std.proofs.Common.{cond, leb, leb-true, leb-false, le-ltb, lt-ltb}
+use Rattle.model.specs.Output.{too_short, copied_over}
+use Rattle.model.proofs.Facts.{by_test}
 use Rattle.model.proofs.Words.{length_bytes}
 use Rattle.word.specs.Place.{fits_at, put, placed, copied}
 use Rattle.word.proofs.Laws.{length_put, put_put, put_one}
@@ -123,6 +125,14 @@ no_numbers = refl
 -- bytes put at the front stand over what was there
 pub put_front : (s bs : List ℕ) → put s 0 bs ≡ copied_over bs s
 put_front s bs = let e : 0 + length bs ≡ length bs = omega arith in ap (λ (k : ℕ). bs ++ drop k s) e
+
+-- bytes that are placed at the front stand over it where they have room
+pub placed_front : (s bs : List ℕ) → placed s 0 bs ≡ cond (too_short (length s) bs) s (copied_over bs s)
+unfolding placed
+placed_front s bs =
+    by_test (leb (0 + length bs) (length s))
+    (λ l. rw (l, le-ltb (length s) (length bs) (omega (arith, leb-true (0 + length bs) (length s) l))) (put_front s bs))
+    (λ l. rw (l, lt-ltb (length s) (length bs) (omega (arith, leb-false (0 + length bs) (length s) l))))
 
 -- a part that has room is copied over the front
 pub copied_front : (s t : List ℕ) (from n : ℕ) (bs : List ℕ) → from + n ≤ length t → n ≤ length s → take n (drop from t) ≡ bs → copied s 0 t from n ≡ copied_over bs s
