@@ -137,17 +137,9 @@ module _ (s : List ℕ) where
     unfolding H.active_zone
     active_zone_answers now z h = store_answers _ s t e ∙ ap answers (sym (active_shown t now) ∙ ap (zone_now_in t) (sym h))
 
-    pub active_offset_answers : (now : ℕ) → asked s (H.active_offset (device_in s) now) ≡ answers (L.active_offset (lists_in t) now)
-    unfolding H.active_offset
-    active_offset_answers now = store_answers _ s t e
-
-    pub next_transition_answers : (now : ℕ) → asked s (H.next_transition (device_in s) now) ≡ answers (L.next_transition (lists_in t) now)
-    unfolding H.next_transition
-    next_transition_answers now = store_answers _ s t e
-
-    pub walk_answers : (start : ℕ) → asked s (H.walk_read (device_in s) start) ≡ answers (walk (lists_in t) start)
-    unfolding H.walk_read
-    walk_answers start = store_answers _ s t e
+  pub walk_is : (start : ℕ) → asked s (H.walk_read (device_in s) start) ≡ of_table (λ t. answers (walk (lists_in t) start)) (table_read s)
+  unfolding H.walk_read
+  walk_is start = store_is _ _ s (λ t. refl)
 
   pub record_is : asked s (H.record_read (device_in s)) ≡ of_table (λ t. answers (record_of (store_in t))) (table_read s)
   unfolding H.record_read

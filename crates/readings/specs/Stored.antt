@@ -1,6 +1,7 @@
 -- A zone that is shown, and whether its name has room.
-use Rattle.std.specs.Prelude.{List, ℕ, ◌+◌, ◌≤◌, length, IfSome}
-use Rattle.model.specs.Answers.{Answer, answers}
+use Rattle.std.specs.Prelude.{List, ℕ, Result, Ok, Err}
+use Rattle.model.specs.declared.Refusal.{Refusal}
+use Rattle.model.specs.Answers.{Answer, refused, answers}
 use Rattle.model.specs.Lookups as L
 use Rattle.model.specs.Output.{roomy}
 use Rattle.lookups.specs.declared.ZoneShown.{ZoneShown}
@@ -11,6 +12,7 @@ use Rattle.readings.specs.Readings.{now_name}
 abbrev pub showing : List ℕ → ZoneShown → ℕ → Answer L.ZoneNow
 showing t z room = roomy room now_name (answers (zone_now_in t z))
 
--- its name stands in the table, where its place says
-pub record Stands (t : List ℕ) (z : ZoneShown) : Type 0 where
-  pub room : IfSome z.name (λ p. p.at + p.len ≤ length t)
+-- what a function inside answers of a call that was taken or refused
+abbrev pub taken : {A : Type 0} → Answer A → Result (Unit {0}) Refusal
+taken (refused cause) = Err cause
+taken (answers a) = Ok tt

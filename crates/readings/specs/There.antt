@@ -15,3 +15,8 @@ module _ {A : Type 0} where
   abbrev pub told : Result A Refusal → Answer A
   told (Ok a) = answers a
   told (Err cause) = refused cause
+
+  -- a number of what is read
+  abbrev pub counted : Answer A → (A → ℕ) → Answer ℕ
+  counted (refused cause) n = refused cause
+  counted (answers a) n = answers (n a)

@@ -9,28 +9,11 @@ ghost use Rattle.readings.specs.Readings.{utc_time, reliable_mark, moment_of, gr
 ghost use Rattle.readings.specs.There.{told};
 
 use crate::{held, lists, tell, tell_option};
-use image::codes::{BAD_LIMITS, TAKEN};
-use image::place::{CLOCK, is_image, mark_at};
-use model::{Refusal, TimeGranularity, TimeSource};
+use image::parts::{granularity_in, moment_at, source_in, trusted_in};
+use image::place::{ANCHOR, SET, UTC, is_image, mark_at};
+use model::{Refusal, TAKEN, TimeGranularity, TimeSource};
 use rtc::{Rtc, UtcTime};
-use word::or_zero::{u8_at, u16_at, u64_at};
-
-// Where the parts of the clock stand; its granularity comes first.
-const SOURCE: usize = CLOCK + image::parts::SOURCE;
-
-const SET: usize = CLOCK + image::parts::SET;
-
-const TRUSTED: usize = CLOCK + image::parts::TRUSTED;
-
-const FABRIC: usize = CLOCK + image::parts::FABRIC;
-
-const ENDPOINT: usize = CLOCK + image::parts::ENDPOINT;
-
-const UTC: usize = CLOCK + image::parts::UTC;
-
-const ANCHOR: usize = CLOCK + image::parts::ANCHOR;
-
-const NODE: usize = CLOCK + image::parts::NODE;
+use word::or_zero::u64_at;
 
 // The reading of the clock at a tick: only its UTC number and its anchor decide.
 #[tactic(auto, unfolding(model::specs::Clock::reading))]
@@ -39,7 +22,7 @@ fn reading(image: &[u8], tick: u64) -> UtcTime
 {
     let rtc = Rtc {
         utc_us: u64_at(image, UTC),
-        anchor: mark_at(image, SET).then(|| u64_at(image, ANCHOR)),
+        anchor: moment_at(image, SET, ANCHOR),
         ..Rtc::new(0)
     };
     rtc.utc_time(tick)
@@ -53,7 +36,7 @@ fn granularity(image: &[u8]) -> TimeGranularity
     if !mark_at(image, SET) {
         return TimeGranularity::NoTime;
     }
-    TimeGranularity::try_from(u8_at(image, CLOCK)).unwrap_or(TimeGranularity::NoTime)
+    granularity_in(image)
 }
 
 // The time source: None where the clock is not set or the code names nothing. Not one generic function with the one above: it would
@@ -65,20 +48,19 @@ fn source(image: &[u8]) -> TimeSource
     if !mark_at(image, SET) {
         return TimeSource::None;
     }
-    TimeSource::try_from(u8_at(image, SOURCE)).unwrap_or(TimeSource::None)
+    source_in(image)
 }
 
 // The UTC time at a tick: whether it is reliable, and the current or the last known moment.
 pub fn utc_time(image: &[u8], tick: u64, reliable: &mut u64, utc_us: &mut u64) -> u64
-    ensures { (result ≡ number_of (utc_time image.now tick))
-        × (reliable.new ≡ leaves (utc_time image.now tick) reliable_mark reliable.old)
-        × (utc_us.new ≡ leaves (utc_time image.now tick) moment_of utc_us.old) }
+    ensures { let r = utc_time image.now tick in
+        (result ≡ number_of r) × (reliable.new ≡ leaves r reliable_mark reliable.old) × (utc_us.new ≡ leaves r moment_of utc_us.old) }
 {
     if !is_image(image) {
-        return BAD_LIMITS;
+        return u64::from(Refusal::BadLimits);
     }
     let utc = reading(image, tick);
-    *reliable = matches!(utc, UtcTime::Reliable(_)) as u64;
+    *reliable = utc.reliable().is_some() as u64;
     *utc_us = match utc {
         UtcTime::Reliable(moment) | UtcTime::LastKnown(moment) => moment,
     };
@@ -87,8 +69,8 @@ pub fn utc_time(image: &[u8], tick: u64, reliable: &mut u64, utc_us: &mut u64) -
 
 // Granularity, by its number.
 pub fn utc_time_granularity(image: &[u8], value: &mut u64) -> u64
-    ensures { (result ≡ number_of (granularity image.now))
-        × (value.new ≡ leaves (granularity image.now) (λ n. n) value.old) }
+    ensures { let r = granularity image.now in
+        (result ≡ number_of r) × (value.new ≡ leaves r (λ n. n) value.old) }
 {
     let code = held(image).map(|image| u8::from(granularity(image)) as u64);
     tell(code, value)
@@ -96,8 +78,8 @@ pub fn utc_time_granularity(image: &[u8], value: &mut u64) -> u64
 
 // TimeSource, by its number.
 pub fn utc_time_source(image: &[u8], value: &mut u64) -> u64
-    ensures { (result ≡ number_of (time_source image.now))
-        × (value.new ≡ leaves (time_source image.now) (λ n. n) value.old) }
+    ensures { let r = time_source image.now in
+        (result ≡ number_of r) × (value.new ≡ leaves r (λ n. n) value.old) }
 {
     let code = held(image).map(|image| u8::from(source(image)) as u64);
     tell(code, value)
@@ -111,26 +93,22 @@ pub fn trusted_time_source(
     node_id: &mut u64,
     endpoint: &mut u64,
 ) -> u64
-    ensures { (result ≡ number_of (trusted_time_source image.now))
-        × (there.new ≡ leaves (trusted_time_source image.now) mark_of there.old)
-        × (fab_idx.new ≡ leaves (trusted_time_source image.now) fabric_of fab_idx.old)
-        × (node_id.new ≡ leaves (trusted_time_source image.now) node_of node_id.old)
-        × (endpoint.new ≡ leaves (trusted_time_source image.now) endpoint_of endpoint.old) }
+    ensures { let r = trusted_time_source image.now in
+        (result ≡ number_of r)
+        × (there.new ≡ leaves r mark_of there.old)
+        × (fab_idx.new ≡ leaves r fabric_of fab_idx.old)
+        × (node_id.new ≡ leaves r node_of node_id.old)
+        × (endpoint.new ≡ leaves r endpoint_of endpoint.old) }
 {
     if !is_image(image) {
-        return BAD_LIMITS;
+        return u64::from(Refusal::BadLimits);
     }
-    if mark_at(image, TRUSTED) {
-        *there = 1;
-        *fab_idx = u8_at(image, FABRIC) as u64;
-        *node_id = u64_at(image, NODE);
-        *endpoint = u16_at(image, ENDPOINT) as u64;
-        return TAKEN;
-    }
-    *there = 0;
-    *fab_idx = 0;
-    *node_id = 0;
-    *endpoint = 0;
+    let trusted = trusted_in(image);
+    let source = trusted.unwrap_or_default();
+    *there = trusted.is_some() as u64;
+    *fab_idx = source.fab_idx as u64;
+    *node_id = source.node_id;
+    *endpoint = source.endpoint as u64;
     TAKEN
 }
 

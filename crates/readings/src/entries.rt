@@ -3,18 +3,15 @@ ghost use Rattle.std.specs.Prelude.{◌≡◌, length};
 ghost use Rattle.model.specs.Answers.{number_of};
 ghost use Rattle.model.specs.Output.{leaves, leaves_copy, mark_of, or_zero, or_zeroℤ};
 ghost use Rattle.readings.specs.Readings.{zone_entry, zone_name, window_entry, active_zone, now_name, active_offset};
-ghost use Rattle.readings.specs.Stored.{showing, Stands};
+ghost use Rattle.readings.specs.Stored.{showing, taken};
 
-use crate::{lists, refused, tell_option};
-use image::codes::{CONSTRAINT_ERROR, NO_SPACE, TAKEN};
+use crate::{lists, tell_option};
+use lookups::ZoneShown;
 use lookups::windows::dst_offset_at;
 use lookups::zones::time_zone_at;
-use lookups::{NamePlace, ZoneShown};
+use model::{Refusal, TAKEN};
 
-// No name: no bytes are copied.
-const NO_NAME: NamePlace = NamePlace { at: 0, len: 0 };
-
-// A zone that a table shows, where its name has room.
+// A zone that a table shows, where its name has room: that to the front of `name`, and the rest of it.
 fn show_zone(
     table: &[u8],
     zone: ZoneShown,
@@ -22,28 +19,23 @@ fn show_zone(
     offset: &mut i32,
     named: &mut u64,
     name_len: &mut u64,
-) -> u64
-    requires { Stands table.now zone }
-    ensures { (result ≡ number_of (showing table.now zone (length name.old)))
-        × (name.new ≡ leaves_copy (showing table.now zone (length name.old)) now_name name.old)
-        × (offset.new ≡ leaves (showing table.now zone (length name.old)) (λ z. z.offset) offset.old)
-        × (named.new ≡ leaves (showing table.now zone (length name.old)) (λ z. mark_of z.name) named.old)
-        × (name_len.new ≡ leaves (showing table.now zone (length name.old)) (λ z. length (now_name z)) name_len.old) }
+) -> Result<(), Refusal>
+    ensures { let r = showing table.now zone (length name.old) in
+        (result ≡ taken r)
+        × (name.new ≡ leaves_copy r now_name name.old)
+        × (offset.new ≡ leaves r (λ z. z.offset) offset.old)
+        × (named.new ≡ leaves r (λ z. mark_of z.name) named.old)
+        × (name_len.new ≡ leaves r (λ z. length (now_name z)) name_len.old) }
 {
-    let place = zone.name.unwrap_or(NO_NAME);
-    let n = place.len;
-    if name.len() < n {
-        return NO_SPACE;
-    }
-    word::copy(name, 0, table, place.at, n);
+    let len = zone.put_name(table, name).ok_or(Refusal::NoSpace)?;
     *offset = zone.offset;
     *named = zone.name.is_some() as u64;
-    *name_len = n as u64;
-    TAKEN
+    *name_len = len as u64;
+    Ok(())
 }
 
 // TimeZone: one of the listed zones; its name is copied to the front of `name`.
-#[tactic(auto, using(crate::proofs::Answered::zone_none, crate::proofs::Answered::zone_some, crate::proofs::Answered::table_sized, crate::proofs::Copies::listed_stands))]
+#[tactic(auto, using(crate::proofs::Answered::zone_none, crate::proofs::Answered::zone_some))]
 pub fn time_zone(
     image: &[u8],
     index: usize,
@@ -53,25 +45,26 @@ pub fn time_zone(
     named: &mut u64,
     name_len: &mut u64,
 ) -> u64
-    ensures { (result ≡ number_of (zone_entry image.now index (length name.old)))
-        × (name.new ≡ leaves_copy (zone_entry image.now index (length name.old)) zone_name name.old)
-        × (offset.new ≡ leaves (zone_entry image.now index (length name.old)) (λ z. z.offset) offset.old)
-        × (valid_at.new ≡ leaves (zone_entry image.now index (length name.old)) (λ z. z.start) valid_at.old)
-        × (named.new ≡ leaves (zone_entry image.now index (length name.old)) (λ z. mark_of z.name) named.old)
-        × (name_len.new ≡ leaves (zone_entry image.now index (length name.old)) (λ z. length (zone_name z)) name_len.old) }
+    ensures { let r = zone_entry image.now index (length name.old) in
+        (result ≡ number_of r)
+        × (name.new ≡ leaves_copy r zone_name name.old)
+        × (offset.new ≡ leaves r (λ z. z.offset) offset.old)
+        × (valid_at.new ≡ leaves r (λ z. z.start) valid_at.old)
+        × (named.new ≡ leaves r (λ z. mark_of z.name) named.old)
+        × (name_len.new ≡ leaves r (λ z. length (zone_name z)) name_len.old) }
 {
     let table = match lists(image) {
         Ok(table) => table,
-        Err(cause) => return refused(cause),
+        Err(cause) => return u64::from(cause),
     };
     let Some(zone) = time_zone_at(table, index) else {
-        return CONSTRAINT_ERROR;
+        return u64::from(Refusal::ConstraintError);
     };
-    let answer = show_zone(table, zone, name, offset, named, name_len);
-    if answer == TAKEN {
-        *valid_at = zone.valid_at;
+    if let Err(cause) = show_zone(table, zone, name, offset, named, name_len) {
+        return u64::from(cause);
     }
-    answer
+    *valid_at = zone.valid_at;
+    TAKEN
 }
 
 // DSTOffset: one of the windows.
@@ -84,18 +77,19 @@ pub fn dst_offset(
     closed: &mut u64,
     valid_until: &mut u64,
 ) -> u64
-    ensures { (result ≡ number_of (window_entry image.now index))
-        × (offset.new ≡ leaves (window_entry image.now index) (λ w. w.offset) offset.old)
-        × (valid_starting.new ≡ leaves (window_entry image.now index) (λ w. w.start) valid_starting.old)
-        × (closed.new ≡ leaves (window_entry image.now index) (λ w. mark_of w.until) closed.old)
-        × (valid_until.new ≡ leaves (window_entry image.now index) (λ w. or_zero w.until) valid_until.old) }
+    ensures { let r = window_entry image.now index in
+        (result ≡ number_of r)
+        × (offset.new ≡ leaves r (λ w. w.offset) offset.old)
+        × (valid_starting.new ≡ leaves r (λ w. w.start) valid_starting.old)
+        × (closed.new ≡ leaves r (λ w. mark_of w.until) closed.old)
+        × (valid_until.new ≡ leaves r (λ w. or_zero w.until) valid_until.old) }
 {
     let table = match lists(image) {
         Ok(table) => table,
-        Err(cause) => return refused(cause),
+        Err(cause) => return u64::from(cause),
     };
     let Some(window) = dst_offset_at(table, index) else {
-        return CONSTRAINT_ERROR;
+        return u64::from(Refusal::ConstraintError);
     };
     *offset = window.offset;
     *valid_starting = window.valid_starting;
@@ -105,7 +99,7 @@ pub fn dst_offset(
 }
 
 // The active zone; its name is copied to the front of `name`.
-#[tactic(auto, using(crate::proofs::Answered::active_zone_answers, crate::proofs::Answered::table_sized, crate::proofs::Copies::active_stands))]
+#[tactic(auto, using(crate::proofs::Answered::active_zone_answers))]
 pub fn active_time_zone(
     image: &[u8],
     utc: u64,
@@ -114,25 +108,28 @@ pub fn active_time_zone(
     named: &mut u64,
     name_len: &mut u64,
 ) -> u64
-    ensures { (result ≡ number_of (active_zone image.now utc (length name.old)))
-        × (name.new ≡ leaves_copy (active_zone image.now utc (length name.old)) now_name name.old)
-        × (offset.new ≡ leaves (active_zone image.now utc (length name.old)) (λ z. z.offset) offset.old)
-        × (named.new ≡ leaves (active_zone image.now utc (length name.old)) (λ z. mark_of z.name) named.old)
-        × (name_len.new ≡ leaves (active_zone image.now utc (length name.old)) (λ z. length (now_name z)) name_len.old) }
+    ensures { let r = active_zone image.now utc (length name.old) in
+        (result ≡ number_of r)
+        × (name.new ≡ leaves_copy r now_name name.old)
+        × (offset.new ≡ leaves r (λ z. z.offset) offset.old)
+        × (named.new ≡ leaves r (λ z. mark_of z.name) named.old)
+        × (name_len.new ≡ leaves r (λ z. length (now_name z)) name_len.old) }
 {
     let table = match lists(image) {
         Ok(table) => table,
-        Err(cause) => return refused(cause),
+        Err(cause) => return u64::from(cause),
     };
     let zone = lookups::zones::active_time_zone(table, utc);
-    show_zone(table, zone, name, offset, named, name_len)
+    match show_zone(table, zone, name, offset, named, name_len) {
+        Ok(()) => TAKEN,
+        Err(cause) => u64::from(cause),
+    }
 }
 
 // The offset of the first active window, or that none is active.
 pub fn active_dst_offset(image: &[u8], utc: u64, there: &mut u64, offset: &mut i32) -> u64
-    ensures { (result ≡ number_of (active_offset image.now utc))
-        × (there.new ≡ leaves (active_offset image.now utc) mark_of there.old)
-        × (offset.new ≡ leaves (active_offset image.now utc) or_zeroℤ offset.old) }
+    ensures { let r = active_offset image.now utc in
+        (result ≡ number_of r) × (there.new ≡ leaves r mark_of there.old) × (offset.new ≡ leaves r or_zeroℤ offset.old) }
 {
     let active = lists(image).map(move |table| lookups::windows::active_dst_offset(table, utc));
     tell_option(active, 0, there, offset)

@@ -12,14 +12,12 @@ ghost use Rattle.std.specs.Prelude.{◌≡◌, true, false, MatchResult, unwrap_
 ghost use Rattle.model.specs.Answers.{answers, number_of};
 ghost use Rattle.model.specs.Answers as A;
 ghost use Rattle.model.specs.declared.Refusal.TheVariants.{BadLimits};
-ghost use Rattle.model.specs.Numbers.{refusal_number};
 ghost use Rattle.model.specs.Output.{leaves, mark_of};
 ghost use Rattle.image.specs.Layout.{is_image};
 ghost use Rattle.readings.specs.There.{table_read, told};
 
-use image::codes::TAKEN;
 use image::place::{SIZE, TABLE, has_lists, is_image};
-use model::Refusal;
+use model::{Refusal, TAKEN};
 
 // The bytes, where they are an image.
 fn held(image: &[u8]) -> Result<&[u8], Refusal>
@@ -53,7 +51,7 @@ fn tell(read: Result<u64, Refusal>, value: &mut u64) -> u64
             *value = n;
             TAKEN
         }
-        Err(cause) => u8::from(cause) as u64,
+        Err(cause) => u64::from(cause),
     }
 }
 
@@ -74,13 +72,6 @@ fn tell_option<T: Copy>(
             *value = found.unwrap_or(none);
             TAKEN
         }
-        Err(cause) => u8::from(cause) as u64,
+        Err(cause) => u64::from(cause),
     }
-}
-
-// The number of a refusal.
-fn refused(cause: Refusal) -> u64
-    ensures { result ≡ refusal_number cause }
-{
-    u8::from(cause) as u64
 }

@@ -13,8 +13,8 @@ const NO_DATABASE: u64 = 2;
 // TimeZone: how many zones are listed.
 #[tactic(auto, using(crate::proofs::Answered::zones_listed_is))]
 pub fn time_zone_count(image: &[u8], value: &mut u64) -> u64
-    ensures { (result ≡ number_of (zones_listed image.now))
-        × (value.new ≡ leaves (zones_listed image.now) (λ n. n) value.old) }
+    ensures { let r = zones_listed image.now in
+        (result ≡ number_of r) × (value.new ≡ leaves r (λ n. n) value.old) }
 {
     tell(
         lists(image).map(|table| zone_count(table).max(1) as u64),
@@ -25,8 +25,8 @@ pub fn time_zone_count(image: &[u8], value: &mut u64) -> u64
 // DSTOffset: how many windows there are.
 #[tactic(auto, using(crate::proofs::Answered::windows_listed_is))]
 pub fn dst_offset_count(image: &[u8], value: &mut u64) -> u64
-    ensures { (result ≡ number_of (windows_listed image.now))
-        × (value.new ≡ leaves (windows_listed image.now) (λ n. n) value.old) }
+    ensures { let r = windows_listed image.now in
+        (result ≡ number_of r) × (value.new ≡ leaves r (λ n. n) value.old) }
 {
     tell(lists(image).map(|table| window_count(table) as u64), value)
 }
@@ -34,8 +34,8 @@ pub fn dst_offset_count(image: &[u8], value: &mut u64) -> u64
 // TimeZoneListMaxSize.
 #[tactic(auto, using(crate::proofs::Answered::zone_limit_is))]
 pub fn time_zone_list_max_size(image: &[u8], value: &mut u64) -> u64
-    ensures { (result ≡ number_of (zone_limit image.now))
-        × (value.new ≡ leaves (zone_limit image.now) (λ n. n) value.old) }
+    ensures { let r = zone_limit image.now in
+        (result ≡ number_of r) × (value.new ≡ leaves r (λ n. n) value.old) }
 {
     tell(lists(image).map(|table| zone_limit(table) as u64), value)
 }
@@ -43,8 +43,8 @@ pub fn time_zone_list_max_size(image: &[u8], value: &mut u64) -> u64
 // DSTOffsetListMaxSize.
 #[tactic(auto, using(crate::proofs::Answered::window_limit_is))]
 pub fn dst_offset_list_max_size(image: &[u8], value: &mut u64) -> u64
-    ensures { (result ≡ number_of (window_limit image.now))
-        × (value.new ≡ leaves (window_limit image.now) (λ n. n) value.old) }
+    ensures { let r = window_limit image.now in
+        (result ≡ number_of r) × (value.new ≡ leaves r (λ n. n) value.old) }
 {
     tell(lists(image).map(|table| window_limit(table) as u64), value)
 }
@@ -52,8 +52,8 @@ pub fn dst_offset_list_max_size(image: &[u8], value: &mut u64) -> u64
 // TimeZoneDatabase.
 #[tactic(auto, using(crate::proofs::Answered::database_is))]
 pub fn time_zone_database(image: &[u8], value: &mut u64) -> u64
-    ensures { (result ≡ number_of (database image.now))
-        × (value.new ≡ leaves (database image.now) (λ n. n) value.old) }
+    ensures { let r = database image.now in
+        (result ≡ number_of r) × (value.new ≡ leaves r (λ n. n) value.old) }
 {
     tell(lists(image).map(|_| NO_DATABASE), value)
 }
@@ -61,8 +61,8 @@ pub fn time_zone_database(image: &[u8], value: &mut u64) -> u64
 // How many changes of the lists there were.
 #[tactic(auto, using(crate::proofs::Answered::generation_is))]
 pub fn generation(image: &[u8], value: &mut u64) -> u64
-    ensures { (result ≡ number_of (generation image.now))
-        × (value.new ≡ leaves (generation image.now) (λ n. n) value.old) }
+    ensures { let r = generation image.now in
+        (result ≡ number_of r) × (value.new ≡ leaves r (λ n. n) value.old) }
 {
     tell(
         lists(image).map(|table| table::layout::generation(table) as u64),
@@ -72,8 +72,8 @@ pub fn generation(image: &[u8], value: &mut u64) -> u64
 
 // Whether some window is open or ends after now.
 pub fn dst_usable(image: &[u8], utc: u64, value: &mut u64) -> u64
-    ensures { (result ≡ number_of (usable image.now utc))
-        × (value.new ≡ leaves (usable image.now utc) truth value.old) }
+    ensures { let r = usable image.now utc in
+        (result ≡ number_of r) × (value.new ≡ leaves r truth value.old) }
 {
     tell(
         lists(image).map(move |table| lookups::windows::dst_usable(table, utc) as u64),
@@ -84,8 +84,8 @@ pub fn dst_usable(image: &[u8], utc: u64, value: &mut u64) -> u64
 // Whether there is no window at all.
 #[tactic(auto, using(crate::proofs::Answered::table_empty_is))]
 pub fn dst_table_empty(image: &[u8], value: &mut u64) -> u64
-    ensures { (result ≡ number_of (table_empty image.now))
-        × (value.new ≡ leaves (table_empty image.now) truth value.old) }
+    ensures { let r = table_empty image.now in
+        (result ≡ number_of r) × (value.new ≡ leaves r truth value.old) }
 {
     tell(
         lists(image).map(|table| lookups::windows::dst_table_empty(table) as u64),

@@ -1,9 +1,0 @@
--- `readings::entries::time_zone` meets its contract.
-use Rattle.std.proofs.Common.{refl}
-use Rattle.model.specs.Handler as H
-use Rattle.readings.proofs.Answered.{store_refused}
-use Rattle.readings.proofs.entries.time_zone.Goals as goal
-
-pub returns-in-Err : goal.returns-in-Err
-unfolding H.zone_at
-returns-in-Err c = rw (store_refused _ c.args.image.now c.in-Err.cause c.in-Err.ensures) (c.refused.ensures, refl, refl, refl, refl, refl)
