@@ -13,7 +13,7 @@ impl Rtc {
         self.trusted_time_source
     }
 
-    // Installs or clears the trusted time source. One that is persisted is set alike: its change says what to store or remove.
+    // Installs or clears the trusted time source. The change says what is reported and, where the source is persisted, stored or removed.
     #[tactic(auto, unfolding(model::specs::Clock::set_trusted_time_source, model::specs::Clock::set_trusted_time_source_persist))]
     pub fn set_trusted_time_source(self, source: Option<TrustedTimeSource>) -> SourceSet
         ensures set { source_set_of result ≡ set_trusted_time_source (clock_of self) (option_source source) }

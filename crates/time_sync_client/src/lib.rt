@@ -3,12 +3,13 @@
 #![tactic(auto)]
 
 ghost use Rattle.std.specs.Prelude.{true, ◌&&◌, cond, [], ◌≡◌, ◌*◌, min, is_some};
+ghost use Rattle.std.specs.Option.{option_and_then, option_map_or};
 ghost use Rattle.model.specs.Retries.{new_client, first_retry, granularity_told, refresh_told, refresh, Applied, due, marked, source_missing, time_missing, retry_after, wait_for, next_after, clock_after, clock_effects, attempt_of, attempt, next_if_source, source_changed};
 ghost use Rattle.rtc.specs.Meaning.{option_source, clock_of};
 ghost use Rattle.time_sync_client.specs.Meaning.{client_of, outcome_of, refresh_of, next_of, setting_effects, step_of};
 
 use model::{TimeGranularity, TimeSource};
-use rtc::{Rtc, TrustedTimeSource};
+use rtc::{Rtc, TrustedTimeSource, UtcTimePersisted};
 
 // The period and the next retry are in microseconds.
 #[derive(Clone, Copy)]
@@ -45,6 +46,7 @@ pub enum Wait {
 }
 
 // What a step asks for, in this order: to report the time that it applied, to store a moment, and to emit each event.
+// `applied` does not follow from `stored`: a time may be applied with nothing to store.
 #[derive(Clone, Copy, Default)]
 pub struct Effects {
     pub applied: bool,
@@ -59,15 +61,6 @@ pub struct Step {
     pub rtc: Rtc,
     pub effects: Effects,
     pub next: Wait,
-}
-
-// The clock after an attempt, whether a time was applied to it, and the moment that is to be stored. A time may be applied with nothing to
-// store, so that the flag does not follow from the moment.
-#[derive(Clone, Copy)]
-struct Setting {
-    rtc: Rtc,
-    applied: bool,
-    stored: Option<u64>,
 }
 
 // What comes after an attempt, and the retry of the next one.
@@ -113,10 +106,10 @@ impl TimeSyncClient {
         let set = got.apply(rtc, tick);
         Step {
             client: self,
-            rtc: set.rtc,
+            rtc: set.map_or(rtc, |s| s.rtc),
             effects: Effects {
-                applied: set.applied,
-                stored: set.stored,
+                applied: set.is_some(),
+                stored: set.and_then(|s| s.stored),
                 missing_trusted_time_source,
                 time_failure,
             },
@@ -147,11 +140,10 @@ impl TimeSyncClient {
     fn refresh(source: Option<TrustedTimeSource>, outcome: Option<Reading>) -> Refresh
         ensures { refresh_of result ≡ refresh (is_some (option_source source)) (outcome_of outcome) }
     {
-        match (source, outcome) {
-            (None, _) => Refresh::NoSource,
-            (Some(_), None) => Refresh::Failure,
-            (Some(_), Some(reading)) => reading.refreshed(),
+        if source.is_none() {
+            return Refresh::NoSource;
         }
+        outcome.map_or(Refresh::Failure, Reading::refreshed)
     }
 
     // What comes after an attempt that got this; its retry starts over, stays or doubles, at most to the period.
@@ -160,7 +152,7 @@ impl TimeSyncClient {
         ensures retry { result.retry ≡ retry_after (client_of self.now) (refresh_of got) }
     {
         match got {
-            Refresh::Applied(_, _) => Pause {
+            Refresh::Applied(..) => Pause {
                 next: Wait::For(self.period),
                 retry: first_retry(self.period),
             },
@@ -212,33 +204,22 @@ impl Refresh {
     fn failed(self) -> bool
         ensures { result ≡ time_missing (refresh_of self) }
     {
-        !matches!(self, Refresh::Applied(_, _))
+        !matches!(self, Refresh::Applied(..))
     }
 
-    // Sets the clock to a time, which is reported also where it is equal to the clock's own, and leaves it alone without one.
-    fn apply(self, rtc: Rtc, tick: u64) -> Setting
-        ensures clock { clock_of result.rtc ≡ clock_after (clock_of rtc) (refresh_of self) tick }
-        ensures effects { setting_effects result.applied (result.stored) ≡ clock_effects (clock_of rtc) (refresh_of self) tick }
+    // The setting of the clock to a time, which is reported also where it is equal to the clock's own; none without a time.
+    fn apply(self, rtc: Rtc, tick: u64) -> Option<UtcTimePersisted>
+        ensures clock { clock_of (option_map_or (λ s. s.rtc) result rtc) ≡ clock_after (clock_of rtc) (refresh_of self) tick }
+        ensures effects { setting_effects (is_some result) (option_and_then (λ s. s.stored) result) ≡ clock_effects (clock_of rtc) (refresh_of self) tick }
     {
         match self {
-            Refresh::Applied(utc_us, granularity) => {
-                let set = rtc.set_utc_time_persist(
-                    utc_us,
-                    granularity,
-                    TimeSource::NodeTimeCluster,
-                    tick,
-                );
-                Setting {
-                    rtc: set.rtc,
-                    applied: true,
-                    stored: set.stored,
-                }
-            }
-            Refresh::NoTime | Refresh::NoSource | Refresh::Failure => Setting {
-                rtc,
-                applied: false,
-                stored: None,
-            },
+            Refresh::Applied(utc_us, granularity) => Some(rtc.set_utc_time_persist(
+                utc_us,
+                granularity,
+                TimeSource::NodeTimeCluster,
+                tick,
+            )),
+            Refresh::NoTime | Refresh::NoSource | Refresh::Failure => None,
         }
     }
 }
