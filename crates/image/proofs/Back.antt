@@ -66,8 +66,9 @@ module _ {t : List ℕ} {at : ℕ} where
       rw (holds_byte h at 0 (omega arith) (omega arith))
   timer_reads (Some seen) h f =
       let l = length_timer (Some seen) in
-      let n = length_bytes 4 (bits_of seen.offset) in
-      let offset = holds_number h 4 (bits_of seen.offset) (at + 4) 4 refl (omega arith) (take_all 4 (bytes 4 (bits_of seen.offset)) (omega arith)) (bits_below seen.offset f) in
+      let b = bits_of seen.offset in
+      let n = length_bytes 4 b in
+      let offset = holds_number h 4 b (at + 4) 4 refl (omega arith) (take_all 4 (bytes 4 b) (omega arith)) (bits_below seen.offset f) in
       rw (holds_byte h at 0 (omega arith) (omega arith), holds_byte h (at + 1) 1 refl (omega arith), holds_byte h (at + 2) 2 refl (omega arith))
       (rw (offset, bit_back seen.active, bit_back seen.usable, signed_bits seen.offset f))
 

@@ -27,7 +27,7 @@ use Rattle.word.proofs.Frame.{length_placed, placed_whole, placed_part}
 use Rattle.word.proofs.Places.{placed_there}
 use Rattle.word.proofs.Writes.{placed_short}
 use Rattle.table.specs.Layout.{table_size, new_table, new_bytes as table_bytes}
-use Rattle.image.specs.Layout.{image_size, magic, table_place}
+use Rattle.image.specs.Layout.{image_size, magic, magic_place, store_place, table_place}
 use Rattle.image.specs.Parts.{fabric_of, node_of, endpoint_of, clock_bytes, timer_bytes, client_bytes, new_bytes, with_clock, with_timer, with_client}
 
 -- ## Lengths
@@ -95,17 +95,21 @@ pub ruleset writes = (runs, placed_short, leb-true, source_is, seen_is, lengths,
 -- ## A new image
 
 -- a table that is written as a part of an image
-pub table_is : (s : List ℕ) (r : Rules) → image_size ≤ length s → put_mid table_place table_size s (new_table (take table_size (drop table_place s)) r) ≡ placed s table_place (table_bytes r)
+pub table_is : (s : List ℕ) (r : Rules) → image_size ≤ length s
+    → put_mid table_place table_size s (new_table (take table_size (drop table_place s)) r) ≡ placed s table_place (table_bytes r)
 unfolding new_table
 table_is s r h =
     let part = take table_size (drop table_place s) in
     let l : length part ≡ table_size = simp (length-take, length-drop) (omega arith) in
-    ap (put_mid table_place table_size s) (placed_whole part (table_bytes r) (omega (arith, length_table r))) ∙ placed_part s table_place table_size (table_bytes r) (length_table r) h
+    ap (put_mid table_place table_size s) (placed_whole part (table_bytes r) (omega (arith, length_table r)))
+    ∙ placed_part s table_place table_size (table_bytes r) (length_table r) h
 
 -- the magic, the mark, the clock, the client, the timer and the table
 pub new_is : (s : List ℕ) (l : Option Limits) (build period : ℕ) → image_size ≤ length s
-    → placed (with_timer (with_client (with_clock (placed (placed s 0 (bytes 4 magic)) 4 (from_bool (is_some l) ∷ 0 ∷ 0 ∷ 0 ∷ [])) (fresh build)) (new_client period)) None) table_place (table_bytes (rules_of (unwrap_or l (record { zones = 0; windows = 0 }))))
-    ≡ placed s 0 (new_bytes (is_some l) (zones_of l) (windows_of l) build period)
+    → let marked = placed (placed s magic_place (bytes 4 magic)) store_place (from_bool (is_some l) ∷ 0 ∷ 0 ∷ 0 ∷ []) in
+    let parts = with_timer (with_client (with_clock marked (fresh build)) (new_client period)) None in
+    placed parts table_place (table_bytes (rules_of (unwrap_or l (record { zones = 0; windows = 0 }))))
+    ≡ placed s magic_place (new_bytes (is_some l) (zones_of l) (windows_of l) build period)
 unfolding new_bytes with_timer with_client with_clock
 new_is s None build period h = grind (arith, runs, lengths)
 new_is s (Some l) build period h = grind (arith, runs, lengths)

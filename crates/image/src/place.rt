@@ -4,7 +4,7 @@ ghost use Rattle.table.specs.Layout.{mark_at};
 ghost use Rattle.image.specs.Layout.{is_image};
 ghost use Rattle.image.specs.Parts.{has_lists};
 
-use word::or_zero::u8_at;
+use word::or_zero::{u8_at, u32_at};
 
 // ## Places
 
@@ -88,15 +88,15 @@ pub fn mark_at(s: &[u8], at: usize) -> bool
 
 // Whether the bytes are an image; longer ones are one too.
 #[tactic(auto, unfolding(crate::specs::Layout::is_image))]
-pub fn is_image(s: &[u8]) -> bool
-    ensures { result ≡ is_image s.now }
+pub fn is_image(image: &[u8]) -> bool
+    ensures { result ≡ is_image image.now }
 {
-    SIZE <= s.len() && word::or_zero::u32_at(s, MAGIC_PLACE) == MAGIC
+    SIZE <= image.len() && u32_at(image, MAGIC_PLACE) == MAGIC
 }
 
 // Whether there is a list store.
-pub fn has_lists(s: &[u8]) -> bool
-    ensures { result ≡ has_lists s.now }
+pub fn has_lists(image: &[u8]) -> bool
+    ensures { result ≡ has_lists image.now }
 {
-    mark_at(s, STORE)
+    mark_at(image, STORE)
 }
