@@ -8,6 +8,8 @@ use lib.ListN.{length, drop, get_or}
 use Rattle.model.specs.Bytes.{Front, then, read_zone, read_window, read_all}
 use Rattle.record.specs.declared.SectionRead.{SectionRead}
 use Rattle.model.specs.Lists.{Zone, Window}
+use Rattle.record.specs.declared.TimeZoneRead.{TimeZoneRead}
+use Rattle.record.specs.declared.DSTOffsetRead.{DSTOffsetRead}
 use Rattle.record.specs.Fronts.{place_of, section_found, section_at, zone_found, zone_at, window_found, window_at, next_zone, next_window}
 use Rattle.record.specs.Entries.{EntryRead, ReadAt}
 use Rattle.record.proofs.Front.{place_drop, byte_at, no_byte}
@@ -123,18 +125,23 @@ module _ {A : Type 0} (read_one : List ℕ → Front A) (leaves : Leaves read_on
       let l = left_place s at t h (leaves (drop at s) x t e) in
       record { entry = x; is = e ∙ ap (λ (u : List ℕ). Some (x, u)) l.0; within = l.1 }
 
-pub zone_reads : (s : List ℕ) (at : ℕ) → ReadAt read_zone next_zone s at (zone_at s at)
-unfolding zone_at
-zone_reads s at h = go (read_zone (drop at s)) refl
-  where
-    go : (f : Front Zone) → read_zone (drop at s) ≡ f → MatchOption (zone_found s at f) (read_zone (drop at s) ≡ None) (λ z. EntryRead read_zone s at (next_zone z))
-    go None e = e
-    go (Some p) e = entry_read read_zone zone_leaves s at h p.0 p.1 e
+-- the clauses of an entry's reading, from its place alone
+module _ {A E : Type 0} (read_one : List ℕ → Front A) (found_at : List ℕ → ℕ → Option E) (next_of : E → ℕ) (s : List ℕ) (at : ℕ) where
+  abbrev pub Reads : Option E → Type 0
+  Reads r = record { found : r ≡ found_at s at; read : ReadAt read_one next_of s at r }
 
-pub window_reads : (s : List ℕ) (at : ℕ) → ReadAt read_window next_window s at (window_at s at)
-unfolding window_at
-window_reads s at h = go (read_window (drop at s)) refl
+pub zone_reads : (s : List ℕ) (at : ℕ) {r : Option TimeZoneRead} → r ≡ zone_at s at → Reads read_zone zone_at next_zone s at r
+unfolding zone_at
+zone_reads s at e = record { found = e; read = λ h. rw e (go h (read_zone (drop at s)) refl) }
   where
-    go : (f : Front Window) → read_window (drop at s) ≡ f → MatchOption (window_found s f) (read_window (drop at s) ≡ None) (λ w. EntryRead read_window s at (next_window w))
-    go None e = e
-    go (Some p) e = entry_read read_window window_leaves s at h p.0 p.1 e
+    go : at ≤ length s → (f : Front Zone) → read_zone (drop at s) ≡ f → MatchOption (zone_found s at f) (read_zone (drop at s) ≡ None) (λ z. EntryRead read_zone s at (next_zone z))
+    go h None e = e
+    go h (Some p) e = entry_read read_zone zone_leaves s at h p.0 p.1 e
+
+pub window_reads : (s : List ℕ) (at : ℕ) {r : Option DSTOffsetRead} → r ≡ window_at s at → Reads read_window window_at next_window s at r
+unfolding window_at
+window_reads s at e = record { found = e; read = λ h. rw e (go h (read_window (drop at s)) refl) }
+  where
+    go : at ≤ length s → (f : Front Window) → read_window (drop at s) ≡ f → MatchOption (window_found s f) (read_window (drop at s) ≡ None) (λ w. EntryRead read_window s at (next_window w))
+    go h None e = e
+    go h (Some p) e = entry_read read_window window_leaves s at h p.0 p.1 e

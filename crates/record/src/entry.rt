@@ -7,6 +7,23 @@ ghost use Rattle.record.specs.Entries.{ReadAt};
 
 use crate::{DSTOffsetRead, NamePlace, TimeZoneRead};
 
+// Inside an entry: the start and the mark behind the offset. Where the mark is 0 the entry ends at END; behind it stand a window's end,
+// up to ENDED, or the length of a zone's name and the name.
+pub const START: usize = 4;
+
+pub const MARK: usize = 12;
+
+pub const END: usize = 13;
+
+pub const ENDED: usize = 21;
+
+pub const NAME_LENGTH: usize = 13;
+
+pub const NAME: usize = 14;
+
+// The longest name.
+pub const MOST_NAME: usize = 64;
+
 // An entry of a section, as it is read at a place.
 pub trait Entry: Copy {
     // What an entry stands for, and how one is read off the front of some bytes.
@@ -39,7 +56,21 @@ impl Entry for TimeZoneRead {
     ghost next_of = { next_zone };
 
     fn read_at(s: &[u8], at: usize) -> Option<TimeZoneRead> {
-        time_zone_at(s, at)
+        let head = head_at(s, at)?;
+        let (name, next) = match head.mark {
+            0 => (None, at + END),
+            1 => {
+                let name = name_at(s, at + NAME_LENGTH)?;
+                (Some(name), name.at + name.len)
+            }
+            _ => return None,
+        };
+        Some(TimeZoneRead {
+            offset: head.offset,
+            valid_at: head.start,
+            name,
+            next,
+        })
     }
 
     fn next(&self) -> usize {
@@ -57,7 +88,18 @@ impl Entry for DSTOffsetRead {
     ghost next_of = { next_window };
 
     fn read_at(s: &[u8], at: usize) -> Option<DSTOffsetRead> {
-        dst_offset_at(s, at)
+        let head = head_at(s, at)?;
+        let (valid_until, next) = match head.mark {
+            0 => (None, at + END),
+            1 => (Some(word::u64_at(s, at + END)?), at + ENDED),
+            _ => return None,
+        };
+        Some(DSTOffsetRead {
+            offset: head.offset,
+            valid_starting: head.start,
+            valid_until,
+            next,
+        })
     }
 
     fn next(&self) -> usize {
@@ -77,12 +119,12 @@ struct Head {
 fn head_at(s: &[u8], at: usize) -> Option<Head>
     ensures { result ≡ head_at s.now at }
 {
-    let offset = word::i32_at(s, at)?;
-    let start = word::u64_at(s, at + 4)?;
-    let mark = *s.get(at + 12)?;
+    let (offset, rest) = s.get(at..)?.split_first_chunk()?;
+    let (start, rest) = rest.split_first_chunk()?;
+    let mark = *rest.first()?;
     Some(Head {
-        offset,
-        start,
+        offset: i32::from_le_bytes(*offset),
+        start: u64::from_le_bytes(*start),
         mark,
     })
 }
@@ -93,54 +135,4 @@ fn name_at(s: &[u8], at: usize) -> Option<NamePlace>
 {
     let len = *s.get(at)? as usize;
     word::text::utf8_at(s, at + 1, len).then_some(NamePlace { at: at + 1, len })
-}
-
-// The zone at `at`.
-pub fn time_zone_at(s: &[u8], at: usize) -> Option<TimeZoneRead>
-    ensures { result ≡ zone_at s.now at }
-{
-    let head = head_at(s, at)?;
-    match head.mark {
-        0 => Some(TimeZoneRead {
-            offset: head.offset,
-            valid_at: head.start,
-            name: None,
-            next: at + 13,
-        }),
-        1 => {
-            let name = name_at(s, at + 13)?;
-            Some(TimeZoneRead {
-                offset: head.offset,
-                valid_at: head.start,
-                name: Some(name),
-                next: name.at + name.len,
-            })
-        }
-        _ => None,
-    }
-}
-
-// The window at `at`.
-pub fn dst_offset_at(s: &[u8], at: usize) -> Option<DSTOffsetRead>
-    ensures { result ≡ window_at s.now at }
-{
-    let head = head_at(s, at)?;
-    match head.mark {
-        0 => Some(DSTOffsetRead {
-            offset: head.offset,
-            valid_starting: head.start,
-            valid_until: None,
-            next: at + 13,
-        }),
-        1 => {
-            let valid_until = word::u64_at(s, at + 13)?;
-            Some(DSTOffsetRead {
-                offset: head.offset,
-                valid_starting: head.start,
-                valid_until: Some(valid_until),
-                next: at + 21,
-            })
-        }
-        _ => None,
-    }
 }

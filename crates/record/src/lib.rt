@@ -5,6 +5,19 @@ pub mod entry;
 pub mod read;
 pub mod section;
 
+ghost use Rattle.std.specs.Prelude.{◌≡◌};
+ghost use Rattle.record.specs.RoundTrip.{bytes_of};
+
+use entry::{ENDED, MOST_NAME, NAME};
+
+// The most zones and the most windows that a record has.
+pub const MOST_ZONES: usize = 8;
+
+pub const MOST_WINDOWS: usize = 16;
+
+// How many bytes the largest record has: two counts, each zone with its longest name and each window with an end.
+pub const MOST_BYTES: usize = 1 + MOST_ZONES * (NAME + MOST_NAME) + 1 + MOST_WINDOWS * ENDED;
+
 // Where a name stands in the bytes that were read.
 #[derive(Clone, Copy)]
 pub struct NamePlace {
@@ -48,14 +61,21 @@ pub struct RecordRead {
 // A record: its bytes, zeros after them, and how many they are; a fixed buffer, since there is no heap.
 #[derive(Clone, Copy)]
 pub struct Record {
-    pub bytes: [u8; 962],
+    pub bytes: [u8; MOST_BYTES],
     pub length: usize,
 }
 
 impl Record {
     // A buffer that no record was written to.
     pub const BLANK: Record = Record {
-        bytes: [0; 962],
+        bytes: [0; MOST_BYTES],
         length: 0,
     };
+
+    // The record's bytes. The fields are public, so a length above the buffer's is cut to it.
+    pub fn as_bytes(&self) -> &[u8]
+        ensures { result.now ≡ bytes_of self.now }
+    {
+        self.bytes.get(..self.length).unwrap_or(&self.bytes)
+    }
 }

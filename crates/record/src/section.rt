@@ -11,7 +11,7 @@ pub fn section_at<E: Entry>(s: &[u8], at: usize) -> Option<SectionRead>
 {
     let count = *s.get(at)?;
     let mut next = at + 1;
-    for index in 0..count {
+    for _ in 0..count {
         let entry = E::read_at(s, next)?;
         next = entry.next();
     }
@@ -27,7 +27,7 @@ pub fn nth<E: Entry>(s: &[u8], i: usize) -> Option<E>
         return None;
     }
     let mut at = 1;
-    for index in 0..i {
+    for _ in 0..i {
         let before = E::read_at(s, at)?;
         at = before.next();
     }

@@ -16,29 +16,29 @@ returns-then-count-i g c =
     let past = c.if-count-i.true in
     sym (index_past g.E.Entry.found_at g.E.Entry.next_of c.args.s.now c.args.i (omega arith))
 
-pub loop-index-init : goal.loop-index-init
+pub loop-init : goal.loop-init
 unfolding place_after
-loop-index-init g c = refl
+loop-init g c = refl
 
 pub returns-in_err-before : goal.returns-in_err-before
 returns-in_err-before g c =
     let n = count_is c.args.s.now c.in_ok-count.ensures.value in
     let within = c.if-count-i.false in
-    let e : next_at g.E.Entry.found_at g.E.Entry.next_of c.args.s.now c.loop-index.at ≡ None = ap (option_map g.E.Entry.next_of) (sym c.in_err-before.ensures.found) in
+    let e : next_at g.E.Entry.found_at g.E.Entry.next_of c.args.s.now c.loop.at ≡ None = ap (option_map g.E.Entry.next_of) (sym c.in_err-before.ensures.found) in
     c.from_residual-in_err-before.ensures
     ∙ sym (index_within g.E.Entry.found_at g.E.Entry.next_of c.args.s.now c.args.i (omega arith)
-    ∙ ap (option_and_then (g.E.Entry.found_at c.args.s.now)) (place_stops (next_at g.E.Entry.found_at g.E.Entry.next_of c.args.s.now) c.loop-index.index c.args.i c.loop-index.at c.loop-index.invariant e c.loop-index-test.true))
+    ∙ ap (option_and_then (g.E.Entry.found_at c.args.s.now)) (place_stops (next_at g.E.Entry.found_at g.E.Entry.next_of c.args.s.now) c.loop.counter c.args.i c.loop.at c.loop.invariant e c.loop-test.true))
 
-pub loop-index-preserved : goal.loop-index-preserved
-loop-index-preserved g c =
-    place_more (next_at g.E.Entry.found_at g.E.Entry.next_of c.args.s.now) c.loop-index.index c.loop-index.at c.loop-index.invariant
+pub loop-preserved : goal.loop-preserved
+loop-preserved g c =
+    place_more (next_at g.E.Entry.found_at g.E.Entry.next_of c.args.s.now) c.loop.counter c.loop.at c.loop.invariant
     ∙ ap (option_map g.E.Entry.next_of) (sym c.in_ok-before.ensures.found) ∙ ap Some (sym c.next-at.ensures)
 
 pub returns : goal.returns
 returns g c =
     let n = count_is c.args.s.now c.in_ok-count.ensures.value in
     let within = c.if-count-i.false in
-    let e : c.loop-index.index ≡ c.args.i = omega arith in
+    let e : c.loop.counter ≡ c.args.i = omega arith in
     c.read_at-2.ensures.found
     ∙ sym (index_within g.E.Entry.found_at g.E.Entry.next_of c.args.s.now c.args.i (omega arith)
-    ∙ ap (option_and_then (g.E.Entry.found_at c.args.s.now)) (ap (place_after (next_at g.E.Entry.found_at g.E.Entry.next_of c.args.s.now)) (sym e) ∙ c.loop-index.invariant))
+    ∙ ap (option_and_then (g.E.Entry.found_at c.args.s.now)) (ap (place_after (next_at g.E.Entry.found_at g.E.Entry.next_of c.args.s.now)) (sym e) ∙ c.loop.invariant))

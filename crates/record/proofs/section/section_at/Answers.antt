@@ -6,21 +6,21 @@ use Rattle.record.proofs.section.section_at.Goals as goal
 pub returns-in_err-count : goal.returns-in_err-count
 returns-in_err-count g c = c.from_residual.ensures ∙ sym (no_count g.E.Entry.read_one c.args.s.now c.args.at c.in_err-count.ensures.lookup.3)
 
-pub loop-index-init : goal.loop-index-init
-loop-index-init g c = let n = c.in_ok-count.ensures.lookup.3 in begins g.E.Entry.read_one _ _ n.0 _ (n.1 0)
+pub loop-init : goal.loop-init
+loop-init g c = let n = c.in_ok-count.ensures.lookup.3 in begins g.E.Entry.read_one _ _ n.0 _ (n.1 0)
 
 pub returns-in_err-entry : goal.returns-in_err-entry
 returns-in_err-entry g c =
     let n = c.in_ok-count.ensures.lookup.3 in
-    let r = c.loop-index.invariant in
+    let r = c.loop.invariant in
     c.from_residual-in_err-entry.ensures
-    ∙ sym (stops g.E.Entry.read_one _ _ n.0 _ (n.1 0) _ _ r c.loop-index-test.true (c.in_err-entry.ensures.read r.within))
+    ∙ sym (stops g.E.Entry.read_one _ _ n.0 _ (n.1 0) _ _ r c.loop-test.true (c.in_err-entry.ensures.read r.within))
 
-pub loop-index-preserved : goal.loop-index-preserved
-loop-index-preserved g c =
+pub loop-preserved : goal.loop-preserved
+loop-preserved g c =
     let n = c.in_ok-count.ensures.lookup.3 in
-    let r = c.loop-index.invariant in
-    rw c.next-next.ensures (goes_on_lem g.E.Entry.read_one _ _ n.0 _ (n.1 0) _ _ r c.loop-index-test.true (c.in_ok-entry.ensures.read r.within))
+    let r = c.loop.invariant in
+    rw c.next-next.ensures (goes_on_lem g.E.Entry.read_one _ _ n.0 _ (n.1 0) _ _ r c.loop-test.true (c.in_ok-entry.ensures.read r.within))
 
 pub returns : goal.returns
-returns g c = let n = c.in_ok-count.ensures.lookup.3 in sym (ends g.E.Entry.read_one _ _ n.0 _ (n.1 0) _ _ c.loop-index.invariant c.loop-index-test.false)
+returns g c = let n = c.in_ok-count.ensures.lookup.3 in sym (ends g.E.Entry.read_one _ _ n.0 _ (n.1 0) _ _ c.loop.invariant c.loop-test.false)

@@ -3,5 +3,5 @@ use Rattle.std.proofs.Common.{◌-◌}
 use Rattle.record.proofs.Sections.{Reading}
 use Rattle.record.proofs.section.section_at.Given as goal
 
-abbrev pub invariant-loop-index : goal.invariant-loop-index
-invariant-loop-index g l = Reading g.E.Entry.read_one l.s l.at l.count (l.count - l.index) l.next
+abbrev pub invariant-loop : goal.invariant-loop
+invariant-loop g l = Reading g.E.Entry.read_one l.s l.at l.count (l.count - l.counter) l.next
