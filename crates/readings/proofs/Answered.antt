@@ -14,7 +14,7 @@ use Rattle.model.specs.Store.{Store, record_of}
 use Rattle.model.specs.Handler as H
 use Rattle.model.proofs.Facts.{by_test}
 use Rattle.table.specs.Layout.{table_size, zone_at, window_at, zone_place, window_place, zone_count, window_count, zones_in, windows_in, lists_in, store_in}
-use Rattle.lookups.proofs.Entries.{length_entries}
+use Rattle.table.proofs.Sections.{length_entries}
 use Rattle.lookups.proofs.Views.{active_shown, zone_listed_lem, window_listed_lem}
 use Rattle.lookups.specs.Shown.{shown_by, active_index, zone_listed_in, window_listed_in}
 use Rattle.lookups.specs.Laws.{zone_now_in, zone_in, zone_listed_of, window_of, window_listed_of}
@@ -140,6 +140,10 @@ module _ (s : List ℕ) where
   pub walk_is : (start : ℕ) → asked s (H.walk_read (device_in s) start) ≡ of_table (λ t. answers (walk (lists_in t) start)) (table_read s)
   unfolding H.walk_read
   walk_is start = store_is _ _ s (λ t. refl)
+
+  pub walk_answers : (t : List ℕ) → table_read s ≡ answers t → (start : ℕ) → asked s (H.walk_read (device_in s) start) ≡ answers (walk (lists_in t) start)
+  unfolding H.walk_read
+  walk_answers t e start = store_answers _ s t e
 
   pub record_is : asked s (H.record_read (device_in s)) ≡ of_table (λ t. answers (record_of (store_in t))) (table_read s)
   unfolding H.record_read

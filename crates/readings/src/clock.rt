@@ -9,47 +9,10 @@ ghost use Rattle.readings.specs.Readings.{utc_time, reliable_mark, moment_of, gr
 ghost use Rattle.readings.specs.There.{told};
 
 use crate::{held, lists, tell, tell_option};
-use image::parts::{granularity_in, moment_at, source_in, trusted_in};
-use image::place::{ANCHOR, SET, UTC, is_image, mark_at};
-use model::{Refusal, TAKEN, TimeGranularity, TimeSource};
-use rtc::{Rtc, UtcTime};
-use word::or_zero::u64_at;
-
-// The reading of the clock at a tick: only its UTC number and its anchor decide.
-#[tactic(auto, unfolding(model::specs::Clock::reading))]
-fn reading(image: &[u8], tick: u64) -> UtcTime
-    ensures { reading_of result ≡ C.reading (clock_in image.now) tick }
-{
-    let rtc = Rtc {
-        utc_us: u64_at(image, UTC),
-        anchor: moment_at(image, SET, ANCHOR),
-        ..Rtc::new(0)
-    };
-    rtc.utc_time(tick)
-}
-
-// The granularity: NoTime where the clock is not set or the code names nothing.
-#[tactic(auto, unfolding(model::specs::Clock::granularity_read))]
-fn granularity(image: &[u8]) -> TimeGranularity
-    ensures { result ≡ C.granularity_read (clock_in image.now) }
-{
-    if !mark_at(image, SET) {
-        return TimeGranularity::NoTime;
-    }
-    granularity_in(image)
-}
-
-// The time source: None where the clock is not set or the code names nothing. Not one generic function with the one above: it would
-// need a trait with laws for two callers, which is no plainer.
-#[tactic(auto, unfolding(model::specs::Clock::source_read))]
-fn source(image: &[u8]) -> TimeSource
-    ensures { result ≡ C.source_read (clock_in image.now) }
-{
-    if !mark_at(image, SET) {
-        return TimeSource::None;
-    }
-    source_in(image)
-}
+use image::parts::rtc_in;
+use image::place::is_image;
+use model::{Refusal, TAKEN};
+use rtc::UtcTime;
 
 // The UTC time at a tick: whether it is reliable, and the current or the last known moment.
 pub fn utc_time(image: &[u8], tick: u64, reliable: &mut u64, utc_us: &mut u64) -> u64
@@ -59,7 +22,7 @@ pub fn utc_time(image: &[u8], tick: u64, reliable: &mut u64, utc_us: &mut u64) -
     if !is_image(image) {
         return u64::from(Refusal::BadLimits);
     }
-    let utc = reading(image, tick);
+    let utc = rtc_in(image).utc_time(tick);
     *reliable = utc.reliable().is_some() as u64;
     *utc_us = match utc {
         UtcTime::Reliable(moment) | UtcTime::LastKnown(moment) => moment,
@@ -72,7 +35,7 @@ pub fn utc_time_granularity(image: &[u8], value: &mut u64) -> u64
     ensures { let r = granularity image.now in
         (result ≡ number_of r) × (value.new ≡ leaves r (λ n. n) value.old) }
 {
-    let code = held(image).map(|image| u8::from(granularity(image)) as u64);
+    let code = held(image).map(|image| u64::from(u8::from(rtc_in(image).utc_time_granularity())));
     tell(code, value)
 }
 
@@ -81,7 +44,7 @@ pub fn utc_time_source(image: &[u8], value: &mut u64) -> u64
     ensures { let r = time_source image.now in
         (result ≡ number_of r) × (value.new ≡ leaves r (λ n. n) value.old) }
 {
-    let code = held(image).map(|image| u8::from(source(image)) as u64);
+    let code = held(image).map(|image| u64::from(u8::from(rtc_in(image).utc_time_source())));
     tell(code, value)
 }
 
@@ -103,7 +66,7 @@ pub fn trusted_time_source(
     if !is_image(image) {
         return u64::from(Refusal::BadLimits);
     }
-    let trusted = trusted_in(image);
+    let trusted = rtc_in(image).trusted_time_source;
     let source = trusted.unwrap_or_default();
     *there = trusted.is_some() as u64;
     *fab_idx = source.fab_idx as u64;
@@ -116,7 +79,7 @@ pub fn trusted_time_source(
 fn local(image: &[u8], tick: u64) -> Result<Option<u64>, Refusal>
     ensures { told result ≡ local_time image.now tick }
 {
-    let reading = reading(held(image)?, tick);
+    let reading = rtc_in(held(image)?).utc_time(tick);
     local_time::local_time(reading, lists(image).ok())
 }
 

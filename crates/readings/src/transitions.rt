@@ -18,7 +18,6 @@ pub fn next_transition(image: &[u8], utc: u64, there: &mut u64, moment: &mut u64
 }
 
 // The walk, its moments to the front of `moments` where they have room: how many steps it takes.
-#[tactic(auto, using(crate::proofs::Copies::walked_is, crate::proofs::Answered::walk_is, word::proofs::Writes::placed_front))]
 fn walked(image: &[u8], start: u64, moments: &mut [u8]) -> Result<u64, Refusal>
     ensures { let r = walked image.now start (length moments.old) in
         (told result ≡ counted r (λ w. w.steps)) × (moments.new ≡ leaves_copy r walk_bytes moments.old) }

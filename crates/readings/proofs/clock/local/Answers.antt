@@ -12,5 +12,5 @@ pub returns : goal.returns
 returns c =
     let a = c.args in
     let i : is_image a.image.now ≡ true = search rules in
-    let q : reading_of c.reading-reading.result ≡ C.reading (clock_in a.image.now) a.tick = search rules in
+    let q : reading_of c.utc_time-reading.result ≡ C.reading (clock_in a.image.now) a.tick = search rules in
     sym (local_time_is a.image.now a.tick _ _ _ (told c.local_time.result) i c.lists.ensures c.ok.ensures.value q (sym (told_local c.local_time.result) ∙ c.local_time.ensures))
