@@ -44,13 +44,12 @@ module _ (p : List ℕ) (b : (i : ℕ) → get_or p i 0 < 256) where
   unfolding head_bytes
   zone_clear h z = rw z (spelt (0 ∷ []) (omega arith))
 
-  pub zone_set : 78 ≤ length p → mark_at p 12 ≡ true → let n = min (byte_at p 13) 64 in zone_bytes (zone_at p 0) ≡ head_bytes p ++ (n ∷ []) ++ take n (drop 14 p)
+  pub zone_set : (n : ℕ) → 78 ≤ length p → mark_at p 12 ≡ true → n ≡ min (byte_at p 13) 64 → zone_bytes (zone_at p 0) ≡ head_bytes p ++ (n ∷ []) ++ take n (drop 14 p)
   unfolding head_bytes
-  zone_set h z =
-      let n = min (byte_at p 13) 64 in
+  zone_set n h z e =
       let name = take n (drop 14 p) in
       let l : length name ≡ n = length-take-le n (drop 14 p) (omega (arith, length-drop 14 p)) in
-      rw z
+      rw (z, ← e)
       (spelt (1 ∷ length name ∷ name) (omega arith) ∙ ap (λ (k : ℕ). take 12 p ++ (1 ∷ k ∷ name)) l
       ∙ sym (append_assoc (take 12 p ++ (1 ∷ [])) (n ∷ []) name ∙ append_assoc (take 12 p) (1 ∷ []) (n ∷ name)))
 

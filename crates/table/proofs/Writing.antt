@@ -24,38 +24,44 @@ module _ (place : ℕ → ℕ) (length_at : List ℕ → ℕ → ℕ) (s : List 
         long = refl;
       }
 
-  pub record Next (at : ℕ) : Type 0 where
+module _ {place : ℕ → ℕ} {length_at : List ℕ → ℕ → ℕ} {s : List ℕ} {from n : ℕ} {table₀ : List ℕ} {i at : ℕ} {table : List ℕ} (w : Copying place length_at s from n table₀ i at table) where
+  one_more : i < n → n - i ≡ suc (n - (i + 1))
+  one_more h = omega arith
+
+  -- the next one stands at `at`
+  pub record Next : Type 0 where
     pub head : at + 13 ≤ length s
     pub whole : at + length_at s at ≤ length s
 
-  module _ {i at : ℕ} {table : List ℕ} (w : Copying i at table) where
-    one_more : i < n → n - i ≡ suc (n - (i + 1))
-    one_more h = omega arith
+  pub next : i < n → Next
+  unfolding Whole
+  next h = let t = subst (Whole length_at s at) (one_more h) w.whole in record { head = t.0; whole = t.1 }
 
-    pub next : i < n → Next at
-    unfolding Whole
-    next h = let t = subst (Whole length_at s at) (one_more h) w.whole in record { head = t.0; whole = t.1 }
+  pub one_copied : i < n → (m to : ℕ) {table' : List ℕ} → m ≡ length_at s at → to ≡ place i → table' ≡ placed table to (take (at + m - at) (drop at s))
+      → Copying place length_at s from n table₀ (i + 1) (at + m) table'
+  unfolding Whole parts_from end_of put_entries
+  one_copied h m to {table'} c p q =
+      let e = one_more h in
+      let part = take (length_at s at) (drop at s) in
+      let more = parts_from length_at s (at + length_at s at) (n - (i + 1)) in
+      let t = subst (Whole length_at s at) e w.whole in
+      let k : at + m - at ≡ length_at s at = omega arith in
+      let put : table' ≡ placed table (place i) part = q ∙ ap (λ (x : ℕ). placed table to (take x (drop at s))) k ∙ ap (λ (x : ℕ). placed table x part) p in
+      rw c
+      (record {
+        left =
+            w.left ∙ ap (λ (k : ℕ). put_entries place (λ bs. bs) table i (parts_from length_at s at k)) e
+            ∙ ap (λ (u : List ℕ). put_entries place (λ bs. bs) u (suc i) more) (sym put)
+            ∙ ap (λ (k : ℕ). put_entries place (λ bs. bs) table' k more) (sym (add-one i));
+        whole = t.2;
+        end = w.end ∙ ap (end_of length_at s at) e;
+        long = ap length put ∙ length_placed table (place i) part ∙ w.long;
+      })
 
-    pub one_copied : i < n → (table' : List ℕ) → table' ≡ placed table (place i) (take (length_at s at) (drop at s)) → Copying (i + 1) (at + length_at s at) table'
-    unfolding Whole parts_from end_of put_entries
-    one_copied h table' q =
-        let e = one_more h in
-        let more = parts_from length_at s (at + length_at s at) (n - (i + 1)) in
-        let t = subst (Whole length_at s at) e w.whole in
-        record {
-          left =
-              w.left ∙ ap (λ (k : ℕ). put_entries place (λ bs. bs) table i (parts_from length_at s at k)) e
-              ∙ ap (λ (u : List ℕ). put_entries place (λ bs. bs) u (suc i) more) (sym q)
-              ∙ ap (λ (k : ℕ). put_entries place (λ bs. bs) table' k more) (sym (add-one i));
-          whole = t.2;
-          end = w.end ∙ ap (end_of length_at s at) e;
-          long = ap length q ∙ length_placed table (place i) (take (length_at s at) (drop at s)) ∙ w.long;
-        }
-
-    pub all_copied : n ≤ i → (table ≡ put_entries place (λ bs. bs) table₀ 0 (parts_from length_at s from n)) × (at ≡ end_of length_at s from n)
-    unfolding parts_from end_of put_entries
-    all_copied h =
-        let e : n - i ≡ 0 = omega arith in (
-          sym (w.left ∙ ap (λ (k : ℕ). put_entries place (λ bs. bs) table i (parts_from length_at s at k)) e),
-          sym (w.end ∙ ap (end_of length_at s at) e),
-        )
+  pub all_copied : n ≤ i → (table ≡ put_entries place (λ bs. bs) table₀ 0 (parts_from length_at s from n)) × (at ≡ end_of length_at s from n)
+  unfolding parts_from end_of put_entries
+  all_copied h =
+      let e : n - i ≡ 0 = omega arith in (
+        sym (w.left ∙ ap (λ (k : ℕ). put_entries place (λ bs. bs) table i (parts_from length_at s at k)) e),
+        sym (w.end ∙ ap (end_of length_at s at) e),
+      )

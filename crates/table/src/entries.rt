@@ -1,28 +1,11 @@
 // Entries copied to their places as they are written.
-ghost use Rattle.std.specs.Prelude.{◌≡◌, ◌+◌, ◌≤◌, length, take, drop};
+ghost use Rattle.std.specs.Prelude.{◌≡◌, ◌+◌, length};
 ghost use Rattle.model.specs.Bytes.{zone_bytes, window_bytes, all_bytes};
-ghost use Rattle.word.specs.Place.{placed, put};
 ghost use Rattle.table.specs.Layout.{zone_place, window_place, put_entries};
 ghost use Rattle.table.specs.Held.{Held, Whole, parts_from, end_of, zones_from, windows_from};
 
 use crate::kind::Place;
 use crate::layout::{WINDOW_SIZE, ZONE_SIZE};
-
-// Copies n bytes from `from` on to `at`.
-pub(crate) fn copy(out: &mut [u8], at: usize, s: &[u8], from: usize, n: usize)
-    requires { (from + n ≤ length s.now) × (at + n ≤ length out.old) }
-    ensures { out.new ≡ put out.old at (take n (drop from s.now)) }
-{
-    word::copy(out, at, s, from, n);
-}
-
-// The same where there is room.
-fn copy_where_fits(out: &mut [u8], at: usize, s: &[u8], from: usize, n: usize)
-    requires { from + n ≤ length s.now }
-    ensures { out.new ≡ placed out.old at (take n (drop from s.now)) }
-{
-    word::copy(out, at, s, from, n);
-}
 
 // Copies the n entries of a kind from `from` on to their places, and answers the place after them.
 fn put_all<P: Place>(table: &mut [u8], s: &[u8], from: usize, n: u8) -> usize
@@ -32,7 +15,7 @@ fn put_all<P: Place>(table: &mut [u8], s: &[u8], from: usize, n: u8) -> usize
     let mut at = from;
     for i in 0..n as usize {
         let m = P::length_at(s, at);
-        copy_where_fits(table, P::at(i), s, at, m);
+        word::put(table, P::at(i), &s[at..at + m]);
         at += m;
     }
     at

@@ -6,7 +6,6 @@ ghost use Rattle.word.specs.Place.{put};
 ghost use Rattle.table.specs.Layout.{mark_at, zone_at, window_at, zone_place, window_place};
 ghost use Rattle.table.specs.Held.{head_bytes, zone_length_at, window_length_at};
 
-use crate::entries::copy;
 use crate::layout::{
     END, ENDED, MARK, MOST_NAME, NAME, NAME_LENGTH, WINDOW_SIZE, WINDOWS, ZONE_SIZE, ZONES,
 };
@@ -48,7 +47,7 @@ fn put_head(out: &mut [u8], at: usize, place: &[u8]) -> bool
     ensures { (result ≡ mark_at place.now 12) × (out.new ≡ put out.old at (head_bytes place.now)) }
 {
     let marked = place[MARK] != 0;
-    copy(out, at, place, 0, MARK);
+    out[at..at + MARK].copy_from_slice(&place[..MARK]);
     out[at + MARK] = u8::from(marked);
     marked
 }
@@ -78,12 +77,13 @@ impl Place for [u8; ZONE_SIZE] {
     }
 
     fn put(&self, out: &mut [u8], at: usize) -> usize {
-        let n = self.length();
-        if put_head(out, at, self) {
-            out[at + NAME_LENGTH] = (n - NAME) as u8;
-            copy(out, at + NAME, self, NAME, n - NAME);
+        if !put_head(out, at, self) {
+            return at + END;
         }
-        at + n
+        let n = (self[NAME_LENGTH] as usize).min(MOST_NAME);
+        out[at + NAME_LENGTH] = n as u8;
+        word::put(out, at + NAME, &self[NAME..NAME + n]);
+        at + NAME + n
     }
 }
 
@@ -112,10 +112,10 @@ impl Place for [u8; WINDOW_SIZE] {
     }
 
     fn put(&self, out: &mut [u8], at: usize) -> usize {
-        let n = self.length();
-        if put_head(out, at, self) {
-            copy(out, at + END, self, END, n - END);
+        if !put_head(out, at, self) {
+            return at + END;
         }
-        at + n
+        out[at + END..at + ENDED].copy_from_slice(&self[END..ENDED]);
+        at + ENDED
     }
 }

@@ -1,32 +1,23 @@
 -- A window is written as its head, and its end where it has one.
-use Rattle.std.proofs.Common.{◌≡◌, true, sym, ap, ◌∙◌, ◌+◌, arith}
-use Rattle.table.specs.Layout.{mark_at, window_at}
+use Rattle.std.proofs.Common.{sym, ◌∙◌, arith}
+use Rattle.table.specs.Layout.{window_at}
 use Rattle.table.proofs.Held.{window_least}
 use Rattle.table.proofs.Entry.{Ended, open_end, ended}
 use Rattle.table.proofs.kind.ArrayU8WINDOWSIZEPlace.put.Goals as goal
-use Rattle.table.proofs.kind.ArrayU8WINDOWSIZEPlace.put.Goals.{After-put_head, then-put_head, else-put_head}
+use Rattle.table.proofs.kind.ArrayU8WINDOWSIZEPlace.put.Goals.{Else-not-put_head}
 
 pub put_head-requires : goal.put_head-requires
 put_head-requires c = (omega (arith, c.told-self), omega (arith, c.requires, window_least (window_at c.args.self.now 0)))
 
--- its end, where the mark is set
-end : (c : After-put_head) → let a = c.args in mark_at a.self.now 12 ≡ true → Ended a.self.now c.fits-self a.out.now a.at c.length-n.result c.put_head.ensures.1 c.told-self c.length-n.ensures c.requires
-end c = let a = c.args in ended a.self.now c.fits-self a.out.now a.at c.length-n.result c.put_head.ensures.1 c.told-self c.length-n.ensures c.requires
+pub returns-then-not-put_head : goal.returns-then-not-put_head
+returns-then-not-put_head c = let a = c.args in open_end a.self.now c.fits-self a.out.now a.at c.put_head.ensures.1 c.told-self c.requires (sym c.put_head.ensures.0 ∙ c.if-not-put_head.true)
 
-pub overflow_sub-n : goal.overflow_sub-n
-overflow_sub-n c = omega (arith, (end (goal.at.overflow_sub-n c).After-put_head (sym c.put_head.ensures.0 ∙ c.if-put_head.true)).whole)
+-- its end
+end : (c : Else-not-put_head) → let a = c.args in Ended a.self.now c.fits-self a.out.now a.at c.put_head.ensures.1 c.told-self c.requires
+end c = let a = c.args in ended a.self.now c.fits-self a.out.now a.at c.put_head.ensures.1 c.told-self c.requires (sym c.put_head.ensures.0 ∙ c.if-not-put_head.false)
 
-pub copy-requires : goal.copy-requires
-copy-requires c =
-    let m = end (goal.at.copy-requires c).After-put_head (sym c.put_head.ensures.0 ∙ c.if-put_head.true) in
-    (omega (arith, c.told-self, m.whole), omega (arith, c.requires, c.length-n.ensures, m.kept, m.whole))
+pub slice_bounds-copy_from_slice-end : goal.slice_bounds-copy_from_slice-end
+slice_bounds-copy_from_slice-end c = let m = end (goal.at.slice_bounds-copy_from_slice-end c).Else-not-put_head in omega (arith, c.requires, m.long, m.kept)
 
 pub returns : goal.returns
-returns c =
-    let a = c.args in (
-      elim c.if-put_head.branch [
-        | then-put_head w ↦ w.out-is ∙ (end (goal.at.returns c).After-put_head (sym c.put_head.ensures.0 ∙ w.if-put_head.true)).all _ w.copy.ensures
-        | else-put_head w ↦ w.out-is ∙ open_end a.self.now c.fits-self a.out.now a.at c.length-n.result c.put_head.ensures.1 c.told-self c.length-n.ensures c.requires (sym c.put_head.ensures.0 ∙ w.if-put_head.false)
-      ],
-      ap (λ k. a.at + k) c.length-n.ensures,
-    )
+returns c = let m = end (goal.at.returns c).Else-not-put_head in (m.all _ c.copy_from_slice.ensures.after, omega (arith, m.long))
