@@ -1,11 +1,11 @@
 -- A part of some bytes: cut out, read as a number, and written.
 use Rattle.std.proofs.Common.{Bool, true, false, cond, List, ◌++◌, ◌≡◌, refl, sym, ap, ◌∙◌, ℕ, zero, suc, ◌+◌, ◌*◌, ◌-◌, ◌<◌, ◌≤◌, length, take, drop, slice_index, arith, Option, None, Some, Bor, append_assoc, drop-drop, le-leb, leb-true, MatchOption, option_map, option_copied, unwrap_or, length-drop, length-take-le}
+use borrow.Rule.Slice.PartMut.{put_mid}
 use Rattle.std.proofs.lemmas.Bool.{lt-leb}
 use Rattle.std.specs.Array.{IsFirstChunk}
 use Rattle.std.proofs.Math.Seq.{take-add}
 use Rattle.std.specs.Simd.{first_chunks}
 use Rattle.std.specs.Int.{byte_worth, bytes_low_first, sum_through}
-use borrow.Rule.Slice.PartMut.{put_mid}
 use Rattle.model.specs.Bytes.{bytes, all_bytes, number}
 use Rattle.model.proofs.Words.{length_bytes}
 use Rattle.word.specs.Place.{fits_at, part_at, number_at, word_at, put, placed}

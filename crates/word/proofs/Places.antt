@@ -1,17 +1,8 @@
 -- What stands at a place where the bytes fit, and where they do not.
-use Rattle.std.specs.Prelude.{None, Some}
-use mathlib.Core.Bool.{Bool, true, false, cond}
-use mathlib.Core.List.{List}
-use mathlib.Core.Path.{◌≡◌, refl, sym, ◌∙◌}
-use Prim.Native.Nat.{ℕ, ◌+◌, ◌-◌, ◌≤◌, ◌<◌}
-use native.Mathlib.Omega.{arith}
-use borrow.Author.Tests.{le-leb, lt-leb, leb-true, leb-false}
-use lib.Dec.{leb}
-use lib.ListN.{length, take, drop, length-drop}
-use lib.Seq.{drop-drop, length-take-le}
+use Rattle.std.proofs.Common.{None, Some, Bool, true, false, cond, List, ◌≡◌, refl, sym, ◌∙◌, ℕ, ◌+◌, ◌≤◌, ◌<◌, arith, le-leb, leb-true, leb-false, length, take, drop, length-drop, drop-drop, length-take-le}
+use Rattle.std.proofs.lemmas.Bool.{lt-leb}
 use Rattle.model.specs.Bytes.{take_bytes, number, well_formed}
 use Rattle.word.specs.Place.{fits_at, number_at, text_at, put, placed, copied}
-use Rattle.model.proofs.Facts.{by_test}
 
 module _ (w : ℕ) (s : List ℕ) (at : ℕ) where
   -- where they fit, the bytes at a place are what a reader takes off the bytes from there on
@@ -26,13 +17,6 @@ module _ (w : ℕ) (s : List ℕ) (at : ℕ) where
   front_short p h =
       let l : length (drop at s) < w = omega (arith, length-drop at s) in
       rw (lt-leb w (length (drop at s)) l)
-
--- n is at most what is left after `at`
-pub room : (at n l : ℕ) → at ≤ l → leb n (l - at) ≡ leb (at + n) l
-room at n l h =
-    by_test (leb (at + n) l)
-    (λ e. let k = leb-true (at + n) l e in rw (e, le-leb n (l - at) (omega arith)))
-    (λ e. let k = leb-false (at + n) l e in rw (e, lt-leb n (l - at) (omega arith)))
 
 -- ## By what `in_bounds` answered
 
@@ -79,15 +63,6 @@ module _ (s : List ℕ) (at : ℕ) (t : List ℕ) (from n : ℕ) {a : Bool} (f :
   pub copied_none : a ≡ false → copied s at t from n ≡ s
   unfolding copied
   copied_none p = rw (sym f ∙ p)
-
-  module _ (p : a ≡ true) {b : Bool} (g : b ≡ fits_at s at n) where
-    pub copied_is : b ≡ true → copied s at t from n ≡ put s at (take n (drop from t))
-    unfolding copied
-    copied_is q = rw (sym f ∙ p, sym g ∙ q)
-
-    pub copied_short : b ≡ false → copied s at t from n ≡ s
-    unfolding copied
-    copied_short q = rw (sym f ∙ p, sym g ∙ q)
 
 -- where both have the bytes
 pub copied_there : (s : List ℕ) (at : ℕ) (t : List ℕ) (from n : ℕ) → from + n ≤ length t → at + n ≤ length s → copied s at t from n ≡ put s at (take n (drop from t))

@@ -1,6 +1,6 @@
 -- `word::copy` meets its contract.
 use Rattle.std.proofs.Common.{ℕ, sym, ap, ◌∙◌, take, drop}
-use native.Mathlib.Nat.{add-sub_cancel_left}
+use Rattle.std.proofs.Math.Nat.{add-sub_cancel_left}
 use Rattle.word.specs.Place.{placed}
 use Rattle.word.proofs.Places.{fitting, copied_none, copied_placed}
 use Rattle.word.proofs.copy.Goals as goal

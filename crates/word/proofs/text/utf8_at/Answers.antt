@@ -1,6 +1,6 @@
 -- `word::text::utf8_at` meets its contract.
 use Rattle.std.proofs.Common.{ℕ, take, drop, sym, ap, ◌∙◌}
-use native.Mathlib.Nat.{add-sub_cancel_left}
+use Rattle.std.proofs.Math.Nat.{add-sub_cancel_left}
 use Rattle.model.specs.Bytes.{well_formed}
 use Rattle.word.proofs.Places.{text_is, text_none}
 use Rattle.word.proofs.text.utf8_at.Goals as goal
