@@ -108,6 +108,8 @@ module _ (s b : List ℕ) (room : ℕ) where
   pub windows_refused : (cause : Refusal) → windows_tested (window_limit_in s) b ≡ Err cause → dst_offset_said s b room ≡ Err cause
   windows_refused cause e = windows_said (Err cause) windows_short e refl
 
-  pub windows_by_room : AreBytes b → windows_tested (window_limit_in s) b ≡ Ok tt → {short lacks : Bool} → lacks ≡ ltb room (length (zones_bytes (zones_in s)) + length b) → lacks ≡ short
-      → dst_offset_said s b room ≡ with_room short (Ok tt)
-  windows_by_room c e {short} l q = windows_said (Ok tt) short e (windows_room c e ∙ sym l ∙ q)
+  pub windows_without_room : AreBytes b → windows_tested (window_limit_in s) b ≡ Ok tt → room < length (zones_bytes (zones_in s)) + length b → dst_offset_said s b room ≡ Err NoSpace
+  windows_without_room c e h = windows_said (Ok tt) true e (windows_room c e ∙ lt-ltb room (length (zones_bytes (zones_in s)) + length b) h)
+
+  pub windows_accepted : AreBytes b → windows_tested (window_limit_in s) b ≡ Ok tt → length (zones_bytes (zones_in s)) + length b ≤ room → dst_offset_said s b room ≡ Ok tt
+  windows_accepted c e h = windows_said (Ok tt) false e (windows_room c e ∙ le-ltb room (length (zones_bytes (zones_in s)) + length b) h)

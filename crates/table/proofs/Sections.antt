@@ -1,5 +1,5 @@
 -- A section written from the places of a table, entry by entry.
-use Rattle.std.proofs.Common.{◌≡◌, ℕ, zero, suc, ◌+◌, ◌<◌, ◌≤◌, List, [], ◌∷◌, ◌++◌, length, get_or, take, drop, set, sym, refl, ap, ◌∙◌, arith, length-append, length-set, take-append-drop, take_all}
+use Rattle.std.proofs.Common.{◌≡◌, ℕ, zero, suc, ◌+◌, ◌<◌, ◌≤◌, List, [], ◌∷◌, ◌++◌, length, get_or, take, drop, set, sym, refl, ap, ◌∙◌, arith, length-append, take-append-drop, take_all}
 use Rattle.model.specs.Bytes.{all_bytes}
 use Rattle.word.specs.Place.{put}
 use Rattle.word.proofs.Writes.{all_append, all_more, Wrote, wrote_none, wrote_put, wrote_byte, wrote_as, same_length}
@@ -27,6 +27,13 @@ module _ {A : Type 0} (entry_bytes : A → List ℕ) where
       let e : all_bytes entry_bytes l ≡ all_bytes entry_bytes (take i l) ++ all_bytes entry_bytes (drop i l)
       = ap (all_bytes entry_bytes) (sym (take-append-drop i l)) ∙ all_append entry_bytes (take i l) (drop i l) in
       omega (arith, ap length e, length-append (all_bytes entry_bytes (take i l)) (all_bytes entry_bytes (drop i l)))
+
+  -- one entry more
+  pub more_long : (l : List A) (i : ℕ) (e : A) → i < length l → e ≡ get_or l i e → length (all_bytes entry_bytes (take (i + 1) l)) ≡ length (all_bytes entry_bytes (take i l)) + length (entry_bytes e)
+  more_long l i e h g =
+      let more : all_bytes entry_bytes (take (i + 1) l) ≡ all_bytes entry_bytes (take i l) ++ entry_bytes e =
+      all_more entry_bytes l i e h ∙ ap (λ x. all_bytes entry_bytes (take i l) ++ entry_bytes x) (sym g) in
+      ap length more ∙ length-append (all_bytes entry_bytes (take i l)) (entry_bytes e)
 
 -- the first `i` entries of `l` stand from `at` on, and the next one goes to `next`
 module _ {B : Type 0} (entry_bytes : B → List ℕ) (l : List B) (s : List ℕ) (at : ℕ) where
@@ -64,47 +71,3 @@ going_end entry_bytes l s₀ at n i out next h c f w =
     let w₂ = wrote_put w₁ (all_bytes entry_bytes (take i l)) (at + 1) out (omega arith) (omega arith) w.wrote.is in
     let q : n ∷ all_bytes entry_bytes (take i l) ≡ length l ∷ all_bytes entry_bytes l = ap (λ (m : ℕ). m ∷ all_bytes entry_bytes (take i l)) c ∙ ap (λ (x : List ℕ). length l ∷ x) b in
     (w₂.is ∙ ap (put s₀ at) q, omega (arith, w.place, ap length b))
-
--- ## The first n entries of a kind, by the bytes in their places
-
-abbrev pub order : ℕ → List ℕ
-order n = entries_from (λ i. i) 0 n
-
-module _ (entry : ℕ → List ℕ) (s₀ : List ℕ) (at n : ℕ) where
-  module _ (r : at + length (n ∷ all_bytes entry (order n)) ≤ length s₀) where
-    pub section_start : Going entry (order n) (set s₀ at n) (at + 1) 0 (set s₀ at n) (at + 1)
-    section_start = going_start entry (order n) (set s₀ at n) (at + 1) (omega (arith, r, length-set s₀ at n))
-
-    module _ (i : ℕ) (out : List ℕ) (next : ℕ) (w : Going entry (order n) (set s₀ at n) (at + 1) i out next) where
-      pub section_kept : length out ≡ length s₀
-      section_kept = same_length w.wrote ∙ length-set s₀ at n
-
-      room : at + 1 + length (all_bytes entry (order n)) ≤ length (set s₀ at n)
-      room = omega (arith, r, length-set s₀ at n)
-
-      pub section_room : i < n → next + length (entry i) ≤ length out
-      section_room h =
-          omega (
-            arith,
-            section_kept,
-            length-set s₀ at n,
-            next_room entry (order n) (set s₀ at n) (at + 1) i out next 0 i w (omega (arith, h, length_entries (λ j. j) 0 n)) (entry_is (λ j. j) n i 0 h) room,
-          )
-
-      pub section_more : i < n → (out' : List ℕ) (next' : ℕ) → out' ≡ put out next (entry i) → next' ≡ next + length (entry i)
-          → Going entry (order n) (set s₀ at n) (at + 1) (i + 1) out' next'
-      section_more h out' next' q p =
-          going_more entry (order n) (set s₀ at n) (at + 1) i out next 0 i w (omega (arith, h, length_entries (λ j. j) 0 n)) (entry_is (λ j. j) n i 0 h) out' next' room q p
-
-      pub section_end : n ≤ i → (out ≡ put s₀ at (n ∷ all_bytes entry (order n))) × (next ≡ at + length (n ∷ all_bytes entry (order n)))
-      section_end h =
-          let l = length_entries (λ j. j) 0 n in
-          let e = going_end entry (order n) s₀ at n i out next (omega (arith, r)) (sym l) (omega (arith, h, l)) w in
-          (e.0 ∙ ap (λ (k : ℕ). put s₀ at (k ∷ all_bytes entry (order n))) l, e.1)
-
--- the entries by their index are the list
-pub by_index : {A : Type 0} (entry_bytes : A → List ℕ) (f : ℕ → A) (i n : ℕ)
-    → all_bytes (λ j. entry_bytes (f j)) (entries_from (λ j. j) i n) ≡ all_bytes entry_bytes (entries_from f i n)
-unfolding all_bytes entries_from
-by_index entry_bytes f i zero = refl
-by_index entry_bytes f i (suc n) = ap (λ (l : List ℕ). entry_bytes (f i) ++ l) (by_index entry_bytes f (suc i) n)

@@ -3,7 +3,7 @@ use Rattle.std.specs.Prelude.{◌≡◌, ℕ, zero, suc, ◌+◌, ◌≤◌, ⊤
 use Rattle.model.specs.Lists.{Zone, Window}
 use Rattle.model.specs.Bytes.{Front, all_bytes, read_zone, read_window, read_all}
 use Rattle.word.specs.Place.{byte_at}
-use Rattle.table.specs.Layout.{mark_at, entries_from}
+use Rattle.table.specs.Layout.{mark_at}
 
 -- how many bytes the entry at `at` has, by its mark
 unfoldable pub zone_length_at : List ℕ → ℕ → ℕ
@@ -12,9 +12,9 @@ zone_length_at s at = cond (byte_at s (at + 12) == 0) 13 (14 + byte_at s (at + 1
 unfoldable pub window_length_at : List ℕ → ℕ → ℕ
 window_length_at s at = cond (byte_at s (at + 12) == 0) 13 21
 
--- an entry's offset, start and mark as they are written
-unfoldable pub head_bytes : List ℕ → ℕ → List ℕ
-head_bytes s at = take 12 (drop at s) ++ (cond (mark_at s (at + 12)) 1 0 ∷ [])
+-- offset, start and mark of the entry in a place as they are written
+unfoldable pub head_bytes : List ℕ → List ℕ
+head_bytes place = take 12 place ++ (cond (mark_at place 12) 1 0 ∷ [])
 
 module _ {A : Type 0} where
   -- what was read
@@ -53,7 +53,3 @@ module _ (length_at : List ℕ → ℕ → ℕ) where
   unfoldable pub Whole : List ℕ → ℕ → ℕ → Type 0
   Whole s at zero = ⊤
   Whole s at (suc n) = (at + 13 ≤ length s) × (at + length_at s at ≤ length s) × Whole s (at + length_at s at) n
-
--- a section of the first n entries of a table: their count, and the bytes of each
-unfoldable pub section_in : (List ℕ → ℕ → List ℕ) → (ℕ → ℕ) → List ℕ → ℕ → List ℕ
-section_in bytes_in place s n = n ∷ all_bytes (λ i. bytes_in s (place i)) (entries_from (λ i. i) 0 n)

@@ -1,4 +1,5 @@
-// The two kinds of entries: where they stand in a table, how long one is, and how it is written.
+// The two kinds of entries, each a trait impl for the bytes of its places: where the places stand in a table, how long an entry is, and
+// how one is written.
 ghost use Rattle.std.specs.Prelude.{◌≡◌, ℕ, ◌+◌, ◌<◌, ◌≤◌, List, length};
 ghost use Rattle.model.specs.Bytes.{zone_bytes, window_bytes};
 ghost use Rattle.word.specs.Place.{put};
@@ -11,108 +12,110 @@ use crate::layout::{
 };
 use word::or_zero::u8_at;
 
-// A kind of entry: its places, the bytes of one that stands somewhere as it is written, and of one that is in a place.
-pub(crate) trait Kind {
+// The bytes of one place of a table, in which an entry stands.
+pub(crate) trait Place {
     ghost place_of: { ℕ → ℕ };
 
     ghost length_at: { List ℕ → ℕ → ℕ };
 
-    ghost size: { ℕ };
+    // What the entry in a place is written as.
+    ghost written: { Self → List ℕ };
 
-    ghost bytes_in: { List ℕ → ℕ → List ℕ };
-
-    // Where the entry with index i stands.
-    fn place(i: usize) -> usize
+    // Where the place with index i stands.
+    fn at(i: usize) -> usize
         requires { i < 256 }
         ensures { result ≡ place_of i };
 
-    // How many bytes the entry at `at` has.
-    fn length(s: &[u8], at: usize) -> usize
+    // How many bytes an entry of this kind has that stands at `at` as it is written.
+    fn length_at(s: &[u8], at: usize) -> usize
         requires { at + 13 ≤ length s.now }
         ensures { result ≡ length_at s.now at };
 
-    // Writes the entry in the place `place` at `at`, and answers the place after it.
-    fn put(out: &mut [u8], at: usize, table: &[u8], place: usize) -> usize
-        requires { (place + size ≤ length table.now) × (at + length (bytes_in table.now place) ≤ length out.old) }
-        ensures { (out.new ≡ put out.old at (bytes_in table.now place)) × (result ≡ at + length (bytes_in table.now place)) };
+    // How many bytes the entry in this place is written as.
+    fn length(&self) -> usize
+        ensures { result ≡ length (written self.now) };
+
+    // Writes the entry in this place at `at`, and answers the place after it.
+    fn put(&self, out: &mut [u8], at: usize) -> usize
+        requires { at + length (written self.now) ≤ length out.old }
+        ensures { (out.new ≡ put out.old at (written self.now)) × (result ≡ at + length (written self.now)) };
 }
 
-pub(crate) struct Zones;
-
-pub(crate) struct Windows;
-
-// Writes offset, start and mark of the entry in the place `place` at `at`, and answers whether the mark is set; a mark above 1 is
-// written as 1.
-fn put_head(out: &mut [u8], at: usize, table: &[u8], place: usize) -> bool
-    requires { (place + 13 ≤ length table.now) × (at + 13 ≤ length out.old) }
-    ensures { (result ≡ mark_at table.now (place + 12)) × (out.new ≡ put out.old at (head_bytes table.now place)) }
+// Writes offset, start and mark of the entry in a place at `at`, and answers whether the mark is set; a mark above 1 is written as 1.
+#[tactic(auto, using(crate::proofs::Entry::head_written))]
+fn put_head(out: &mut [u8], at: usize, place: &[u8]) -> bool
+    requires { (13 ≤ length place.now) × (at + 13 ≤ length out.old) }
+    ensures { (result ≡ mark_at place.now 12) × (out.new ≡ put out.old at (head_bytes place.now)) }
 {
-    copy(out, at, table, place, MARK);
-    let mark = u8_at(table, place + MARK);
-    if mark == 0 {
-        out[at + MARK] = 0;
-        return false;
-    }
-    out[at + MARK] = 1;
-    true
+    let marked = place[MARK] != 0;
+    copy(out, at, place, 0, MARK);
+    out[at + MARK] = u8::from(marked);
+    marked
 }
 
-impl Kind for Zones {
+impl Place for [u8; ZONE_SIZE] {
     ghost place_of = { zone_place };
 
     ghost length_at = { zone_length_at };
 
-    ghost size = { 78 };
+    ghost written = { λ p. zone_bytes (zone_at p 0) };
 
-    ghost bytes_in = { λ s p. zone_bytes (zone_at s p) };
-
-    fn place(i: usize) -> usize {
+    fn at(i: usize) -> usize {
         ZONES + ZONE_SIZE * i
     }
 
-    fn length(s: &[u8], at: usize) -> usize {
+    #[tactic(auto, unfolding(crate::specs::Held::zone_length_at))]
+    fn length_at(s: &[u8], at: usize) -> usize {
         if u8_at(s, at + MARK) == 0 {
             return END;
         }
         NAME + u8_at(s, at + NAME_LENGTH) as usize
     }
 
-    fn put(out: &mut [u8], at: usize, table: &[u8], place: usize) -> usize {
-        if put_head(out, at, table, place) {
-            let n = (u8_at(table, place + NAME_LENGTH) as usize).min(MOST_NAME);
-            out[at + NAME_LENGTH] = n as u8;
-            copy(out, at + NAME, table, place + NAME, n);
-            return at + NAME + n;
+    #[tactic(auto, using(crate::proofs::Bounds::zone_capped))]
+    fn length(&self) -> usize {
+        Self::length_at(self, 0).min(NAME + MOST_NAME)
+    }
+
+    fn put(&self, out: &mut [u8], at: usize) -> usize {
+        let n = self.length();
+        if put_head(out, at, self) {
+            out[at + NAME_LENGTH] = (n - NAME) as u8;
+            copy(out, at + NAME, self, NAME, n - NAME);
         }
-        at + END
+        at + n
     }
 }
 
-impl Kind for Windows {
+impl Place for [u8; WINDOW_SIZE] {
     ghost place_of = { window_place };
 
     ghost length_at = { window_length_at };
 
-    ghost size = { 21 };
+    ghost written = { λ p. window_bytes (window_at p 0) };
 
-    ghost bytes_in = { λ s p. window_bytes (window_at s p) };
-
-    fn place(i: usize) -> usize {
+    fn at(i: usize) -> usize {
         WINDOWS + WINDOW_SIZE * i
     }
 
-    fn length(s: &[u8], at: usize) -> usize {
+    #[tactic(auto, unfolding(crate::specs::Held::window_length_at))]
+    fn length_at(s: &[u8], at: usize) -> usize {
         if u8_at(s, at + MARK) == 0 {
             return END;
         }
         ENDED
     }
 
-    fn put(out: &mut [u8], at: usize, table: &[u8], place: usize) -> usize {
-        if put_head(out, at, table, place) {
-            copy(out, at + END, table, place + END, 8);
-            return at + ENDED;
+    #[tactic(auto, using(crate::proofs::Bounds::window_whole))]
+    fn length(&self) -> usize {
+        Self::length_at(self, 0)
+    }
+
+    fn put(&self, out: &mut [u8], at: usize) -> usize {
+        let n = self.length();
+        if put_head(out, at, self) {
+            copy(out, at + END, self, END, n - END);
         }
-        at + END
+        at + n
     }
 }

@@ -101,6 +101,7 @@ pub fn empties(cause: Refusal) -> bool
 
 // SetDSTOffset, with room for a record of so many bytes: the windows of an accepted request are copied to their places; turned down for
 // what they say they leave none.
+#[tactic(auto, using(crate::proofs::Bounds::zones_most))]
 pub fn set_dst_offset(table: &mut [u8], request: &[u8], room: usize) -> Result<(), Refusal>
     ensures { (result ≡ dst_offset_said table.old request.now room)
         × (table.new ≡ dst_offset_left table.old request.now room) }
@@ -112,7 +113,7 @@ pub fn set_dst_offset(table: &mut [u8], request: &[u8], room: usize) -> Result<(
         return Err(cause);
     }
     // The record is the section of zones and the request.
-    if write::lacks_room(table, request.len(), room) {
+    if room < write::zones_length(table) + request.len() {
         return Err(Refusal::NoSpace);
     }
     let n = u8_at(request, 0);

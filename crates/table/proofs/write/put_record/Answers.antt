@@ -1,30 +1,35 @@
 -- `write::put_record` meets its contract.
-use Rattle.std.proofs.Common.{◌≡◌, ◌+◌, length, arith, length-append}
-use Rattle.model.specs.Lists.{Lists}
+use Rattle.std.proofs.Common.{◌≡◌, ◌+◌, length, ap, ◌∙◌, arith}
 use Rattle.model.specs.Bytes.{zones_bytes, windows_bytes, record_bytes}
-use Rattle.word.proofs.Writes.{Wrote, wrote_none, wrote_put, same_length}
-use Rattle.table.specs.Layout.{zones_in, windows_in, lists_in}
+use Rattle.word.specs.Place.{put}
+use Rattle.word.proofs.Laws.{put_put}
+use Rattle.table.specs.Layout.{zones_in, windows_in}
+use Rattle.table.proofs.Listed.{zones_section, few_zones, windows_section, few_windows}
+use Rattle.table.proofs.Bounds.{record_parts}
 use Rattle.table.proofs.write.put_record.Goals as goal
 
-two : (l : Lists) → length (record_bytes l) ≡ length (zones_bytes l.zones) + length (windows_bytes l.windows)
-unfolding record_bytes
-two l = length-append (zones_bytes l.zones) (windows_bytes l.windows)
+pub put_section-at-requires : goal.put_section-at-requires
+put_section-at-requires c =
+    let s = c.args.table.now in
+    record { count = omega (arith, few_zones s _ c.zones.ensures); room = omega (arith, c.requires, ap length (zones_section s _ c.zones.ensures), record_parts s) }
 
-pub put_zones-at-requires : goal.put_zones-at-requires
-put_zones-at-requires c = (c.requires.0, omega (arith, c.requires.1, two (lists_in c.args.table.now)))
-
-pub put_windows-requires : goal.put_windows-requires
-put_windows-requires c =
-    let first : let a = c.args in Wrote a.out.now 0 (zones_bytes (zones_in a.table.now)) c.put_zones-at.new.out = let a = c.args in
-    wrote_put (wrote_none (omega arith)) (zones_bytes (zones_in a.table.now)) 0 _ (omega arith) (omega (arith, c.requires.1, two (lists_in a.table.now))) c.put_zones-at.ensures.0 in
-    (c.requires.0, omega (arith, c.requires.1, two (lists_in c.args.table.now), c.put_zones-at.ensures.1, same_length first))
+pub put_section-requires : goal.put_section-requires
+put_section-requires c =
+    let s = c.args.table.now in
+    record {
+      count = omega (arith, few_windows s _ c.windows.ensures);
+      room = omega (arith, c.requires, ap length (zones_section s _ c.zones.ensures), ap length (windows_section s _ c.windows.ensures), record_parts s, c.put_section-at.ensures.1, c.put_section-at.auto.out);
+    }
 
 pub returns : goal.returns
 unfolding record_bytes
 returns c =
-    let first : let a = c.args in Wrote a.out.now 0 (zones_bytes (zones_in a.table.now)) c.put_zones-at.new.out = let a = c.args in
-    wrote_put (wrote_none (omega arith)) (zones_bytes (zones_in a.table.now)) 0 _ (omega arith) (omega (arith, c.requires.1, two (lists_in a.table.now))) c.put_zones-at.ensures.0 in
-    let both : let a = c.args in Wrote a.out.now 0 (record_bytes (lists_in a.table.now)) c.put_windows.new.out = let a = c.args in
-    wrote_put first (windows_bytes (windows_in a.table.now)) c.put_zones-at.result _ (omega (arith, c.put_zones-at.ensures.1)) (omega (arith, c.requires.1, two (lists_in a.table.now), c.put_zones-at.ensures.1)) c.put_windows.ensures.0 in
-    let a = c.args in
-    (both.is, omega (arith, two (lists_in a.table.now), c.put_zones-at.ensures.1, c.put_windows.ensures.1))
+    let s = c.args.table.now in
+    let z = zones_section s _ c.zones.ensures in
+    let w = windows_section s _ c.windows.ensures in
+    let at : c.put_section-at.result ≡ 0 + length (zones_bytes (zones_in s)) = c.put_section-at.ensures.1 ∙ ap (λ bs. 0 + length bs) z in
+    let first = c.put_section-at.ensures.0 ∙ ap (put c.args.out.now 0) z in (
+      c.put_section.ensures.0 ∙ ap (put c.put_section-at.new.out c.put_section-at.result) w ∙ ap (λ l. put l c.put_section-at.result (windows_bytes (windows_in s))) first
+          ∙ put_put c.args.out.now 0 (zones_bytes (zones_in s)) (windows_bytes (windows_in s)) at (omega arith),
+      omega (arith, ap length z, ap length w, record_parts s, c.put_section-at.ensures.1, c.put_section.ensures.1),
+    )

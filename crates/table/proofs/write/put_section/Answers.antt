@@ -1,43 +1,29 @@
 -- `write::put_section` meets its contract.
-use Rattle.std.proofs.Common.{ℕ, ◌+◌, length, ap, ◌∙◌, arith}
-use Rattle.word.specs.Place.{put}
-use Rattle.table.specs.Held.{section_in}
-use Rattle.table.proofs.Sections.{section_start, section_room, section_more, section_end}
+use Rattle.std.proofs.Common.{◌+◌, ◌≤◌, length, set, sym, refl, arith, length-set}
+use Rattle.model.specs.Bytes.{all_bytes}
+use Rattle.table.proofs.Sections.{going_start, going_more, going_end, next_room}
 use Rattle.table.proofs.write.put_section.Goals as goal
 
-pub bounds-out-at : goal.bounds-out-at
-unfolding section_in
-bounds-out-at g c = omega (arith, c.requires.room)
-
-pub overflow_add-next : goal.overflow_add-next
-unfolding section_in
-overflow_add-next g c = omega (arith, c.requires.room)
-
-pub loop-i-init : goal.loop-i-init
-unfolding section_in
-loop-i-init g c = section_start (λ i. g.K.Kind.bytes_in c.args.table.now (g.K.Kind.place_of i)) c.args.out.now c.args.at c.args.n c.requires.room
+pub loop-place-init : goal.loop-place-init
+loop-place-init g c = let a = c.args in going_start g.P.Place.written a.places.now _ (a.at + 1) (simp length-set (omega (arith, c.requires.room)))
 
 pub put-next-requires : goal.put-next-requires
-unfolding section_in
 put-next-requires g c =
-    let l = c.loop-i in
-    rw c.place.ensures (
-      c.requires.places l.i c.loop-i-test.true,
-      section_room (λ i. g.K.Kind.bytes_in c.args.table.now (g.K.Kind.place_of i)) c.args.out.now c.args.at c.args.n c.requires.room l.i l.out l.next l.invariant c.loop-i-test.true,
-    )
+    let a = c.args in
+    let l = c.loop-place in
+    let start : a.at + 1 + length (all_bytes g.P.Place.written a.places.now) ≤ length (set a.out.now a.at (length a.places.now)) = simp length-set (omega (arith, c.requires.room)) in
+    let r = next_room g.P.Place.written a.places.now _ (a.at + 1) l.place-index l.out l.next c.place-item.result c.place-item.result l.invariant c.loop-place-test.true (sym c.place-item.is) start in
+    omega (arith, r, l.auto)
 
-pub loop-i-preserved : goal.loop-i-preserved
-unfolding section_in
-loop-i-preserved g c =
-    let l = c.loop-i in
-    let t = c.args.table.now in
-    let e = c.put-next.ensures in
-    section_more (λ i. g.K.Kind.bytes_in t (g.K.Kind.place_of i)) c.args.out.now c.args.at c.args.n c.requires.room l.i l.out l.next l.invariant c.loop-i-test.true _ _
-    (e.0 ∙ ap (λ (p : ℕ). put l.out l.next (g.K.Kind.bytes_in t p)) c.place.ensures)
-    (e.1 ∙ ap (λ (p : ℕ). l.next + length (g.K.Kind.bytes_in t p)) c.place.ensures)
+pub loop-place-preserved : goal.loop-place-preserved
+loop-place-preserved g c =
+    let a = c.args in
+    let l = c.loop-place in
+    going_more g.P.Place.written a.places.now _ (a.at + 1) l.place-index l.out l.next c.place-item.result c.place-item.result l.invariant c.loop-place-test.true (sym c.place-item.is) _ _
+    (simp length-set (omega (arith, c.requires.room))) c.put-next.ensures.0 c.put-next.ensures.1
 
 pub returns : goal.returns
-unfolding section_in
 returns g c =
-    let l = c.loop-i in
-    section_end (λ i. g.K.Kind.bytes_in c.args.table.now (g.K.Kind.place_of i)) c.args.out.now c.args.at c.args.n c.requires.room l.i l.out l.next l.invariant c.loop-i-test.false
+    let a = c.args in
+    let l = c.loop-place in
+    going_end g.P.Place.written a.places.now a.out.now a.at _ l.place-index l.out l.next (omega (arith, c.requires.room)) refl c.loop-place-test.false l.invariant
