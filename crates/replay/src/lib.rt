@@ -4,7 +4,7 @@
 
 mod calls;
 
-ghost use Rattle.std.specs.Prelude.{◌≡◌, ◌≤◌, length, option_copied};
+ghost use Rattle.std.specs.Prelude.{◌≡◌, ◌≤◌, length};
 ghost use Rattle.model.specs.Answers.{number_of};
 ghost use Rattle.model.specs.Output.{leaves_copy};
 ghost use Rattle.table.specs.Layout.{table_size};
@@ -12,9 +12,7 @@ ghost use Rattle.model.specs.Rules.{Rules};
 ghost use Rattle.replay.specs.Replays.{Lent, name_told, moments_told, replayed, lent_after};
 ghost use Rattle.replay.specs.Claim.{ReplayClaim};
 ghost use Rattle.replay.specs.Tables.{answered, by_value};
-ghost use Rattle.lookups.specs.Laws.{shown_name};
 
-use lookups::ZoneShown;
 use model::{Refusal, TAKEN};
 use table::layout::SIZE;
 use word::WORD;
@@ -32,14 +30,6 @@ struct Outcome {
     // How long the record is.
     stored: usize,
     generation: u32,
-}
-
-fn name_in<'a>(zone: &ZoneShown, table: &'a [u8]) -> Option<&'a [u8]>
-    ensures { option_copied result ≡ shown_name table.now zone.now }
-{
-    let place = zone.name?;
-    let rest = table.get(place.at..).unwrap_or_default();
-    Some(rest.get(..place.len).unwrap_or(rest))
 }
 
 // Every lookup in a table at a moment, the walk from another on, the record and the generation; tested for room before anything is written.
@@ -62,7 +52,7 @@ fn answered(
     let walk = lookups::transitions::walk(table, start);
     let walked = walk.walked();
     let zone = lookups::zones::active_time_zone(table, at);
-    let named = name_in(&zone, table);
+    let named = zone.name_in(table);
     let zone_name = named.unwrap_or_default();
     if moments.len() < WORD * walked.len() || name.len() < zone_name.len() {
         return Err(Refusal::NoSpace);

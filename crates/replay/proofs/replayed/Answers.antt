@@ -1,10 +1,9 @@
 -- `replayed` meets its contract.
-use Rattle.std.proofs.Common.{ℕ, List, refl, sym, ap, ◌∙◌, arith, length}
+use Rattle.std.proofs.Common.{ℕ, List, replicate, refl, sym, ap, ◌∙◌, arith, length}
 use Rattle.std.proofs.lemmas.Result.{err_from_is_err_and}
 use Rattle.model.specs.Answers.{Answer}
 use Rattle.model.specs.Output.{leaves_copy}
 use Rattle.model.specs.Rules.{Rules}
-use Rattle.word.proofs.Writes.{zeros}
 use Rattle.history.proofs.Reading.{is_history_lem}
 use Rattle.table.specs.Layout.{store_in}
 use Rattle.table.proofs.Requests.{are_bytes}
@@ -18,7 +17,7 @@ pub returns-in_err-new : goal.returns-in_err-new
 returns-in_err-new c =
     let a = c.args in
     let r : Rules = record { zone_limit = a.zone_limit; window_limit = a.window_limit } in
-    let bad = limits_bad (zeros 1040) r (omega arith) c.new.result c.new.ensures.0 _ c.in_err-new.was in
+    let bad = limits_bad (replicate 1040 0) r (omega arith) c.new.result c.new.ensures.0 _ c.in_err-new.was in
     let p = err_from_is_err_and c.from_residual.result c.from_residual.ensures.1 in
     let e = p.1 in
     let f = p.2 in
@@ -30,7 +29,7 @@ pub returns-then-not-is_history : goal.returns-then-not-is_history
 returns-then-not-is_history c =
     let a = c.args in
     let r : Rules = record { zone_limit = a.zone_limit; window_limit = a.window_limit } in
-    let good = limits_good (zeros 1040) r (omega arith) c.new.result c.new.ensures.0 c.in_ok-new.was in
+    let good = limits_good (replicate 1040 0) r (omega arith) c.new.result c.new.ensures.0 c.in_ok-new.was in
     rw (replayed_unreadable r a.history.now a.start a.at (length a.moments.now) (length a.name.now) (length a.out.now) good (sym c.is_history.ensures ∙ c.if-not-is_history.true))
     (record { value = refl; walked = refl; named = refl; stored = refl })
 
@@ -38,12 +37,12 @@ pub returns : goal.returns
 returns c =
     let a = c.args in
     let r : Rules = record { zone_limit = a.zone_limit; window_limit = a.window_limit } in
-    let good = limits_good (zeros 1040) r (omega arith) c.new.result c.new.ensures.0 c.in_ok-new.was in
+    let good = limits_good (replicate 1040 0) r (omega arith) c.new.result c.new.ensures.0 c.in_ok-new.was in
     let h = is_history_lem a.history.now (sym c.is_history.ensures ∙ c.if-not-is_history.false) in
-    let made = table_made (zeros 1040) r (omega arith) c.new.result c.new.ensures.0 c.new.new.table good c.new.ensures.1 in
+    let made = table_made (replicate 1040 0) r (omega arith) c.new.result c.new.ensures.0 c.new.new.table good c.new.ensures.1 in
     let store =
     ap store_in (c.through.ensures h.calls h.read ∙ ap (λ (t : List ℕ). table_through t h.calls) made)
-    ∙ run_follows (zeros 1040) r a.history.now h.calls (omega arith) good (are_bytes a.history.now (λ i. (c.type_inv.history i).fits)) h.read in
+    ∙ run_follows (replicate 1040 0) r a.history.now h.calls (omega arith) good (are_bytes a.history.now (λ i. (c.type_inv.history i).fits)) h.read in
     let e = sym (replayed_run r a.history.now a.start a.at (length a.moments.now) (length a.name.now) (length a.out.now) good h.calls h.read c.through.new.table store) in
     record {
       value = c.answered.ensures.value ∙ ap by_value e;
