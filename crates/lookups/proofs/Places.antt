@@ -1,5 +1,5 @@
 -- What is looked up in the places of the entries is what is looked up in the lists.
-use Rattle.std.proofs.Common.{◌≡◌, refl, sym, ap, ◌∙◌, ℕ, suc, ◌≤◌, Bool, true, false, cond, ◌||◌, eqb, ℤ, List, [], ◌∷◌, ◌++◌, length, map, reverse, fold, Option, Bor, MatchOption, option_map, unwrap_or, arith, ne_eqb, ltb, eqb-true, eq-eqb, ltb-true, ltb-false, ◌+◌, min, take, drop, not, ◌==◌, None, Some, slice_get}
+use Rattle.std.proofs.Common.{◌≡◌, refl, sym, ap, ◌∙◌, ℕ, suc, ◌≤◌, Bool, true, false, cond, ◌||◌, eqb, ℤ, List, [], ◌∷◌, ◌++◌, length, map, reverse, fold, Option, Bor, MatchOption, option_map, unwrap_or, arith, ne_eqb, ltb, eqb-true, eq-eqb, ltb-true, ltb-false, ◌+◌, min, take, drop, not, ◌==◌, is_some, IfSome, None, Some, slice_get}
 use Rattle.std.proofs.lemmas.List.{reverse-append}
 use Rattle.std.proofs.lemmas.List.Folds.{find-append, list_any-append}
 use Rattle.std.proofs.lemmas.Option.{slice_get_past, slice_get_read}
@@ -211,6 +211,12 @@ zone_read s ps i r e k = item (zone_shown i) ps (zone_places s) i r e k ∙ zone
 pub shown_parts : {o o' : ℤ} {t t' : ℕ} {n n' : Option NamePlace} → o ≡ o' → t ≡ t' → n ≡ n'
     → ◌≡◌ {A = ZoneShown} (record { offset = o; valid_at = t; name = n }) (record { offset = o'; valid_at = t'; name = n' })
 shown_parts p q r = cc
+
+-- a name that is made where the mark is set
+pub named : (i : ℕ) (p : List ℕ) (r : Option NamePlace) → is_some r ≡ not (byte_at p 12 == 0) → IfSome r (λ n. n ≡ record { at = zone_place i + 14; len = min (byte_at p 13) 64 })
+    → r ≡ name_made i (byte_at p 12) (byte_at p 13)
+named i p None e h = rw (sym e) refl
+named i p (Some n) e h = rw (sym e) (ap Some h)
 
 -- an empty list shows one zone
 pub listed_is : (s : List ℕ) (i : ℕ) (z : ZoneShown) (r o m : Option ZoneShown) → z ≡ blank_shown → r ≡ zone_there s i → o ≡ then_some (eqb i 0) z → m ≡ option_or r o

@@ -13,7 +13,7 @@ fn zone_shown(table: &[u8], i: usize) -> Option<ZoneShown>
     ensures { result ≡ zone_there table.now i }
 {
     let place = zones(table).get(i)?;
-    let name = (place[MARK] != 0).then_some(NamePlace {
+    let name = (place[MARK] != 0).then(|| NamePlace {
         at: ZONES + ZONE_SIZE * i + NAME,
         len: (place[NAME_LENGTH] as usize).min(MOST_NAME),
     });
