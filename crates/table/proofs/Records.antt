@@ -1,7 +1,7 @@
 -- What an accepted record holds: its entries, as they are written.
 use Rattle.std.specs.Prelude.{Option, None, Some, Result, Ok}
 use Rattle.model.specs.declared.Refusal.{Refusal}
-use Rattle.std.proofs.Common.{◌≡◌, ℕ, suc, ◌+◌, ◌<◌, List, [], ◌∷◌, ◌++◌, length, get_or, drop, sym, refl, ap, ◌∙◌, append-nil, arith, length-append, get_or-drop, drop-drop, drop_at}
+use Rattle.std.proofs.Common.{◌≡◌, ℕ, suc, ◌+◌, ◌<◌, List, [], ◌∷◌, ◌++◌, length, get_or, drop, sym, refl, ap, ◌∙◌, append-nil, arith, length-append, get_or-drop, drop-drop, drop_at, Fits, w8}
 use Rattle.model.specs.Lists.{Zone, Window, Lists}
 use Rattle.model.specs.Bytes.{zone_bytes, window_bytes, zones_bytes, windows_bytes, record_bytes, all_bytes, read_zone, read_window, read_all, read_section, read_windows, read_record}
 use Rattle.model.specs.History.{verdict, record_verdict}
@@ -14,7 +14,8 @@ use Rattle.record.proofs.Meaning.{whole_is, section_read, record_means}
 use Rattle.rules.specs.Verdicts.{verdict_of, record_tested}
 use Rattle.table.specs.Layout.{zone_limit_in, window_limit_in, zone_count_place, window_count_place, zone_place, window_place, put_entries, with_zones, with_windows}
 use Rattle.table.specs.Held.{found, Held, zones_from, windows_from}
-use Rattle.table.specs.Left.{lists_left, load_said}
+use Rattle.table.specs.Left.{lists_left}
+use Rattle.table.proofs.Requests.{are_bytes}
 
 -- the place of the second section
 abbrev pub second_at : Lists → ℕ
@@ -95,30 +96,19 @@ record_stored_lem zones windows s b h = go (read_record s) refl h
     go None e k = let z : ◌≡◌ {A = ℕ} 0 1 = cc in absurd (omega arith)
     go (Some l) e k = stored s b l e
 
+-- ## A load, by the bytes and the counts that were read
+
+pub stored_there : (s : List ℕ) (k m : ℕ) → ((i : ℕ) → Fits w8 (get_or s i 0)) → record_tested k m s ≡ (Ok tt) → Stored s
+stored_there s k m f h = record_stored_lem k m s (are_bytes s (λ i. (f i).fits)) h
+
+-- the place behind the zones
+pub second_place : (s : List ℕ) (r : Stored s) {n at : ℕ} → n ≡ byte_at s 0 → at ≡ 1 + length (all_bytes zone_bytes (zones_from s 1 n)) → at ≡ second_at r.lists
+second_place s r e p = rw (p, e, r.zones) refl
+
 -- the table that is left
-pub lists_left_lem : (t s : List ℕ) (v : Result (Unit {0}) Refusal) (r : Stored s) (n at m : ℕ) (t₁ t₂ t₃ u : List ℕ) → v ≡ (Ok tt) → n ≡ byte_at s 0 → t₁ ≡ placed t zone_count_place (n ∷ [])
-    → t₂ ≡ put_entries zone_place zone_bytes t₁ 0 (zones_from s 1 n) → at ≡ second_at r.lists → m ≡ byte_at s at → t₃ ≡ placed t₂ window_count_place (m ∷ [])
-    → u ≡ put_entries window_place window_bytes t₃ 0 (windows_from s (at + 1) m) → u ≡ lists_left v (read_record s) t
+pub left_by_load : (t s : List ℕ) (k m n at w : ℕ) (t₁ t₂ t₃ u : List ℕ) → ((i : ℕ) → Fits w8 (get_or s i 0)) → record_tested k m s ≡ (Ok tt) → n ≡ byte_at s 0
+    → t₁ ≡ placed t zone_count_place (n ∷ []) → t₂ ≡ put_entries zone_place zone_bytes t₁ 0 (zones_from s 1 n) → at ≡ 1 + length (all_bytes zone_bytes (zones_from s 1 n))
+    → w ≡ byte_at s at → t₃ ≡ placed t₂ window_count_place (w ∷ []) → u ≡ put_entries window_place window_bytes t₃ 0 (windows_from s (at + 1) w) → u ≡ lists_left (Ok tt) (read_record s) t
 unfolding with_zones with_windows
-lists_left_lem t s v r n at m t₁ t₂ t₃ u e en e₁ e₂ ea em e₃ e₄ =
-    let mm : m ≡ byte_at s (second_at r.lists) = em ∙ ap (byte_at s) ea in
-    let z₁ : t₁ ≡ placed t zone_count_place (length r.lists.zones ∷ []) = e₁ ∙ ap (λ (k : ℕ). placed t zone_count_place (k ∷ [])) (en ∙ r.zone_count_lem) in
-    let z₂ : t₂ ≡ put_entries zone_place zone_bytes (placed t zone_count_place (length r.lists.zones ∷ [])) 0 r.lists.zones =
-    e₂ ∙ ap (λ (k : ℕ). put_entries zone_place zone_bytes t₁ 0 (zones_from s 1 k)) en ∙ ap (put_entries zone_place zone_bytes t₁ 0) r.zones ∙ ap (λ (x : List ℕ). put_entries zone_place zone_bytes x 0 r.lists.zones) z₁ in
-    let w₁ : windows_from s (at + 1) m ≡ r.lists.windows = ap (λ (k : ℕ). windows_from s (k + 1) m) ea ∙ ap (windows_from s (second_at r.lists + 1)) mm ∙ r.windows in
-    e₄ ∙ ap (put_entries window_place window_bytes t₃ 0) w₁
-    ∙ ap (λ (x : List ℕ). put_entries window_place window_bytes x 0 r.lists.windows) (e₃ ∙ ap (λ (k : ℕ). placed t₂ window_count_place (k ∷ [])) (mm ∙ r.window_count_lem) ∙ ap (λ (x : List ℕ). placed x window_count_place (length r.lists.windows ∷ [])) z₂)
-    ∙ sym (ap (λ (w : Result (Unit {0}) Refusal). lists_left w (read_record s) t) e ∙ ap (λ (o : Option Lists). lists_left (Ok tt) o t) r.is)
-
--- ## What a load hears and finds
-
--- what the rules said, at the limits that were read
-pub load_heard : (t s : List ℕ) {k m : ℕ} {v r : Result (Unit {0}) Refusal} → v ≡ record_tested k m s → k ≡ zone_limit_in t → m ≡ window_limit_in t → v ≡ r → load_said t s ≡ r
-unfolding load_said
-load_heard t s {k} {m} p q w e =
-    sym (p ∙ ap (λ (n : ℕ). record_tested n m s) q ∙ ap (λ (n : ℕ). record_tested (zone_limit_in t) n s) w) ∙ e
-
--- the place behind the zones, by the count that was read
-pub second_place : (s : List ℕ) (asked : Stored s) {n at : ℕ} → n ≡ byte_at s 0 → at ≡ 1 + length (all_bytes zone_bytes (zones_from s 1 n)) → at ≡ second_at asked.lists
-second_place s asked e p =
-    p ∙ ap (λ (k : ℕ). 1 + length (all_bytes zone_bytes (zones_from s 1 k))) e ∙ ap (λ (zs : List Zone). 1 + length (all_bytes zone_bytes zs)) asked.zones
+left_by_load t s k m n at w t₁ t₂ t₃ u f h en e₁ e₂ ea ew e₃ e₄ =
+    let r = stored_there s k m f h in rw (r.is, e₄, e₃, e₂, e₁, ew, ea, en, r.zones, r.windows, r.zone_count_lem, r.window_count_lem) refl

@@ -1,6 +1,6 @@
 -- What an accepted request holds: its entries, as they are written.
 use Rattle.std.specs.Prelude.{Option, None, Some, Result, Ok, Err}
-use Rattle.std.proofs.Common.{◌≡◌, ℕ, suc, ◌<◌, Bool, true, false, cond, List, [], ◌∷◌, ◌++◌, length, get_or, drop, sym, refl, ap, subst, ◌∙◌, append-nil, arith}
+use Rattle.std.proofs.Common.{◌≡◌, ℕ, suc, ◌<◌, Bool, true, false, cond, List, [], ◌∷◌, ◌++◌, length, get_or, drop, sym, refl, ap, subst, ◌∙◌, append-nil, arith, Fits, w8}
 use Rattle.model.specs.declared.Refusal.{Refusal}
 use Rattle.model.specs.Lists.{Zone, Window}
 use Rattle.model.specs.Bytes.{zone_bytes, window_bytes, zones_bytes, windows_bytes, all_bytes, read_zone, read_window, read_all, read_section, read_zones, read_windows}
@@ -66,41 +66,31 @@ windows_requested limit s b h =
     let r = section_read read_window window_leaves s 0 ws [] (whole_is (read_section read_window s) ws e) in
     requested window_bytes s (read_windows s) (windows_from s) ws e (B.windows_written s ws b e).0 (ap found (ap (λ (n : ℕ). read_all read_window n (drop 1 s)) r.count ∙ r.entries)))
 
--- they stand there, by the count that was read
-pub entries_held : {A : Type 0} (entry_bytes : A → List ℕ) (s : List ℕ) (o : Option (List A)) (from : ℕ → ℕ → List A) (n : ℕ)
-    → Request entry_bytes s o from → n ≡ byte_at s 0 → Held entry_bytes s 1 n (from 1 n)
-entries_held entry_bytes s o from n r e = subst (λ (k : ℕ). Held entry_bytes s 1 k (from 1 k)) (sym e) r.held
+-- ## The calls, by the count that was read
 
--- ## The table that is left
+fit_bytes : (s : List ℕ) → ((i : ℕ) → Fits w8 (get_or s i 0)) → AreBytes s
+fit_bytes s f = are_bytes s (λ i. (f i).fits)
 
-module _ (t s : List ℕ) (v : Result (Unit {0}) Refusal) (n : ℕ) (c u : List ℕ) where
-  pub zones_left_lem : (x : List ℕ) (r : Request zone_bytes s (read_zones s) (zones_from s)) → v ≡ (Ok tt) → n ≡ byte_at s 0 → c ≡ placed t zone_count_place (n ∷ [])
-      → u ≡ put_entries zone_place zone_bytes c 0 (zones_from s 1 n) → x ≡ counted (with_windows u []) → x ≡ zones_left v (read_zones s) t
+module _ (s : List ℕ) (n k : ℕ) (f : (i : ℕ) → Fits w8 (get_or s i 0)) where
+  -- the entries stand there
+  pub zones_held : zones_tested k s ≡ (Ok tt) → n ≡ byte_at s 0 → Held zone_bytes s 1 n (zones_from s 1 n)
+  zones_held h e = rw e (zones_requested k s (fit_bytes s f) h).held
+
+  pub windows_held : windows_tested k s ≡ (Ok tt) → n ≡ byte_at s 0 → Held window_bytes s 1 n (windows_from s 1 n)
+  windows_held h e = rw e (windows_requested k s (fit_bytes s f) h).held
+
+module _ (t s : List ℕ) (n k : ℕ) (c u x : List ℕ) (f : (i : ℕ) → Fits w8 (get_or s i 0)) where
+  -- and the table that is left
+  pub left_by_zones : zones_tested k s ≡ (Ok tt) → n ≡ byte_at s 0 → c ≡ placed t zone_count_place (n ∷ []) → u ≡ put_entries zone_place zone_bytes c 0 (zones_from s 1 n)
+      → x ≡ counted (with_windows u []) → x ≡ zones_left (Ok tt) (read_zones s) t
   unfolding with_zones
-  zones_left_lem x r e m p q g =
-      g
-      ∙ ap (λ (l : List ℕ). counted (with_windows l []))
-      (q ∙ ap (λ (k : ℕ). put_entries zone_place zone_bytes c 0 (zones_from s 1 k)) m ∙ ap (put_entries zone_place zone_bytes c 0) r.listed
-      ∙ ap (λ (l : List ℕ). put_entries zone_place zone_bytes l 0 r.list) (p ∙ ap (λ (k : ℕ). placed t zone_count_place (k ∷ [])) (m ∙ r.count)))
-      ∙ sym (ap (λ (w : Result (Unit {0}) Refusal). zones_left w (read_zones s) t) e ∙ ap (λ (o : Option (List Zone)). zones_left (Ok tt) o t) r.is)
+  left_by_zones h m p q g = let r = zones_requested k s (fit_bytes s f) h in rw (r.is, g, q, p, m, r.listed, r.count) refl
 
-  pub windows_left_lem : (x : List ℕ) (r : Request window_bytes s (read_windows s) (windows_from s)) → v ≡ (Ok tt) → n ≡ byte_at s 0 → c ≡ placed t window_count_place (n ∷ [])
-      → u ≡ put_entries window_place window_bytes c 0 (windows_from s 1 n) → x ≡ counted u → x ≡ windows_left v (read_windows s) t
+  pub left_by_windows : windows_tested k s ≡ (Ok tt) → n ≡ byte_at s 0 → c ≡ placed t window_count_place (n ∷ []) → u ≡ put_entries window_place window_bytes c 0 (windows_from s 1 n)
+      → x ≡ counted u → x ≡ windows_left (Ok tt) (read_windows s) t
   unfolding with_windows
-  windows_left_lem x r e m p q g =
-      g
-      ∙ ap counted
-      (q ∙ ap (λ (k : ℕ). put_entries window_place window_bytes c 0 (windows_from s 1 k)) m ∙ ap (put_entries window_place window_bytes c 0) r.listed
-      ∙ ap (λ (l : List ℕ). put_entries window_place window_bytes l 0 r.list) (p ∙ ap (λ (k : ℕ). placed t window_count_place (k ∷ [])) (m ∙ r.count)))
-      ∙ sym (ap (λ (w : Result (Unit {0}) Refusal). windows_left w (read_windows s) t) e ∙ ap (λ (o : Option (List Window)). windows_left (Ok tt) o t) r.is)
+  left_by_windows h m p q g = let r = windows_requested k s (fit_bytes s f) h in rw (r.is, g, q, p, m, r.listed, r.count) refl
 
-module _ (t : List ℕ) (v : Result (Unit {0}) Refusal) (cause : Refusal) (o : Option (List Window)) (e : Err cause ≡ v) where
-  pub windows_stay : empties cause ≡ false → t ≡ windows_left v o t
-  windows_stay h =
-      let q : windows_left (Err cause) o t ≡ t = ap (λ (b : Bool). cond b (counted (with_windows t [])) t) h in
-      sym q ∙ ap (λ (w : Result (Unit {0}) Refusal). windows_left w o t) e
-
-  pub windows_gone : (x : List ℕ) → empties cause ≡ true → x ≡ counted (with_windows t []) → x ≡ windows_left v o t
-  windows_gone x h g =
-      let q : windows_left (Err cause) o t ≡ counted (with_windows t []) = ap (λ (b : Bool). cond b (counted (with_windows t [])) t) h in
-      g ∙ sym q ∙ ap (λ (w : Result (Unit {0}) Refusal). windows_left w o t) e
+-- windows that are turned down for another cause stay
+pub windows_stay : (t : List ℕ) (v : Result (Unit {0}) Refusal) (cause : Refusal) (o : Option (List Window)) → Err cause ≡ v → empties cause ≡ false → t ≡ windows_left v o t
+windows_stay t v cause o e h = sym (ap (λ (w : Result (Unit {0}) Refusal). windows_left w o t) (sym e) ∙ ap (λ (b : Bool). cond b (counted (with_windows t [])) t) h)

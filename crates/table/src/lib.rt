@@ -67,6 +67,7 @@ pub fn new(table: &mut [u8], zone_limit: usize, window_limit: usize) -> Result<(
 }
 
 // Leaves no window, and counts the change.
+#[tactic(auto, unfolding(crate::specs::Layout::with_windows, crate::specs::Layout::put_entries))]
 fn drop_windows(table: &mut [u8])
     ensures { table.new ≡ counted (with_windows table.old []) }
 {
@@ -76,6 +77,7 @@ fn drop_windows(table: &mut [u8])
 
 // SetTimeZone, with room for a record of so many bytes: the zones of an accepted request are copied to their places, and there is no
 // window any more.
+#[tactic(auto, using(crate::proofs::Room::zones_by_room, crate::proofs::Requests::left_by_zones), unfolding(crate::specs::Left::time_zone_said, crate::specs::Left::time_zone_left))]
 pub fn set_time_zone(table: &mut [u8], request: &[u8], room: usize) -> Result<(), Refusal>
     ensures { (result ≡ time_zone_said table.old request.now room)
         × (table.new ≡ time_zone_left table.old request.now room) }
@@ -101,7 +103,7 @@ pub fn empties(cause: Refusal) -> bool
 
 // SetDSTOffset, with room for a record of so many bytes: the windows of an accepted request are copied to their places; turned down for
 // what they say they leave none.
-#[tactic(auto, using(crate::proofs::Bounds::zones_most))]
+#[tactic(auto, using(crate::proofs::Bounds::zones_most, crate::proofs::Room::windows_by_room, crate::proofs::Requests::left_by_windows), unfolding(crate::specs::Left::dst_offset_said, crate::specs::Left::dst_offset_left))]
 pub fn set_dst_offset(table: &mut [u8], request: &[u8], room: usize) -> Result<(), Refusal>
     ensures { (result ≡ dst_offset_said table.old request.now room)
         × (table.new ≡ dst_offset_left table.old request.now room) }
@@ -124,6 +126,7 @@ pub fn set_dst_offset(table: &mut [u8], request: &[u8], room: usize) -> Result<(
 }
 
 // Loads a stored record: the entries of an accepted one are copied to their places, and no change is counted; else nothing changes.
+#[tactic(auto, using(crate::proofs::Records::left_by_load), unfolding(crate::specs::Left::load_said, crate::specs::Left::load_left))]
 pub fn load(table: &mut [u8], stored: &[u8]) -> Result<(), Refusal>
     ensures { (result ≡ load_said table.old stored.now) × (table.new ≡ load_left table.old stored.now) }
 {
@@ -142,6 +145,7 @@ pub fn load(table: &mut [u8], stored: &[u8]) -> Result<(), Refusal>
 }
 
 // Factory reset: no zone and no window.
+#[tactic(auto, unfolding(crate::specs::Left::reset_left, crate::specs::Layout::with_zones, crate::specs::Layout::put_entries))]
 pub fn factory_reset(table: &mut [u8])
     ensures { table.new ≡ reset_left table.old }
 {
