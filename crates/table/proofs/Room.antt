@@ -1,8 +1,7 @@
 -- What is said of a request, by the length of the record that it would store.
 use Rattle.std.specs.Prelude.{None, Some, Result, Ok, Err}
-use Rattle.std.proofs.Common.{◌≡◌, ℕ, ◌+◌, ◌<◌, ◌≤◌, Bool, true, false, ltb, List, [], ◌∷◌, length, refl, sym, ap, ◌∙◌, arith, length-append, le-ltb, lt-ltb}
+use Rattle.std.proofs.Common.{◌≡◌, ℕ, ◌+◌, Bool, ltb, List, [], ◌∷◌, length, sym, ap, ◌∙◌, arith, length-append, get_or, Fits, w8}
 use Rattle.model.specs.declared.Refusal.{Refusal}
-use Rattle.model.specs.declared.Refusal.TheVariants.{NoSpace}
 use Rattle.model.specs.Lists.{Zone, Window, Lists}
 use Rattle.model.specs.Bytes.{zones_bytes, windows_bytes, record_bytes, all_bytes, read_zones, read_windows}
 use Rattle.model.specs.Rules as M
@@ -15,7 +14,7 @@ use Rattle.rules.specs.Verdicts.{zones_tested, windows_tested}
 use Rattle.rules.proofs.Agree.{zones_are_lem, windows_are_lem, is_accepted}
 use Rattle.table.specs.Layout.{zones_in, lists_in, zone_limit_in, window_limit_in, rules_in}
 use Rattle.table.specs.Left.{with_room, time_zone_said, dst_offset_said, zones_left, time_zone_left}
-use Rattle.table.proofs.Requests.{zones_requested, windows_requested}
+use Rattle.table.proofs.Requests.{are_bytes, zones_requested, windows_requested}
 
 -- ## What an accepted request makes of the lists, and the length of its record
 
@@ -87,29 +86,10 @@ module _ (s b : List ℕ) (room : ℕ) where
   unfolding time_zone_left
   zones_stay cause e = (sym e, sym (ap (λ (v : Result (Unit {0}) Refusal). zones_left v (read_zones b) s) e))
 
-  -- ## The answers of a call, by what the rules said and by the room
+-- the same from the bytes that were read
+module _ (s b : List ℕ) (room : ℕ) (f : (i : ℕ) → Fits w8 (get_or b i 0)) where
+  pub zones_by_room : zones_tested (zone_limit_in s) b ≡ (Ok tt) → zones_short s b room ≡ ltb room (length b + 1)
+  zones_by_room = zones_room s b room (are_bytes b (λ i. (f i).fits))
 
-  -- what the rules said, at the limit that was read
-  pub zones_heard : {k : ℕ} {v r : Result (Unit {0}) Refusal} → v ≡ zones_tested k b → k ≡ zone_limit_in s → v ≡ r → zones_tested (zone_limit_in s) b ≡ r
-  zones_heard p q e = sym (p ∙ ap (λ (n : ℕ). zones_tested n b) q) ∙ e
-
-  pub windows_heard : {k : ℕ} {v r : Result (Unit {0}) Refusal} → v ≡ windows_tested k b → k ≡ window_limit_in s → v ≡ r → windows_tested (window_limit_in s) b ≡ r
-  windows_heard p q e = sym (p ∙ ap (λ (n : ℕ). windows_tested n b) q) ∙ e
-
-  pub zones_refused : (cause : Refusal) → zones_tested (zone_limit_in s) b ≡ Err cause → (Err cause ≡ time_zone_said s b room) × (s ≡ time_zone_left s b room)
-  zones_refused cause e = zones_stay cause (zones_said (Err cause) zones_short e refl)
-
-  pub zones_without_room : AreBytes b → zones_tested (zone_limit_in s) b ≡ Ok tt → room ≤ length b → (Err NoSpace ≡ time_zone_said s b room) × (s ≡ time_zone_left s b room)
-  zones_without_room c e h = zones_stay NoSpace (zones_said (Ok tt) true e (zones_room c e ∙ lt-ltb room (length b + 1) (omega arith)))
-
-  pub zones_accepted : AreBytes b → zones_tested (zone_limit_in s) b ≡ Ok tt → length b < room → time_zone_said s b room ≡ Ok tt
-  zones_accepted c e h = zones_said (Ok tt) false e (zones_room c e ∙ le-ltb room (length b + 1) (omega arith))
-
-  pub windows_refused : (cause : Refusal) → windows_tested (window_limit_in s) b ≡ Err cause → dst_offset_said s b room ≡ Err cause
-  windows_refused cause e = windows_said (Err cause) windows_short e refl
-
-  pub windows_without_room : AreBytes b → windows_tested (window_limit_in s) b ≡ Ok tt → room < length (zones_bytes (zones_in s)) + length b → dst_offset_said s b room ≡ Err NoSpace
-  windows_without_room c e h = windows_said (Ok tt) true e (windows_room c e ∙ lt-ltb room (length (zones_bytes (zones_in s)) + length b) h)
-
-  pub windows_accepted : AreBytes b → windows_tested (window_limit_in s) b ≡ Ok tt → length (zones_bytes (zones_in s)) + length b ≤ room → dst_offset_said s b room ≡ Ok tt
-  windows_accepted c e h = windows_said (Ok tt) false e (windows_room c e ∙ le-ltb room (length (zones_bytes (zones_in s)) + length b) h)
+  pub windows_by_room : windows_tested (window_limit_in s) b ≡ (Ok tt) → windows_short s b room ≡ ltb room (length (zones_bytes (zones_in s)) + length b)
+  windows_by_room = windows_room s b room (are_bytes b (λ i. (f i).fits))

@@ -3,10 +3,10 @@ ghost use Rattle.std.specs.Prelude.{◌≡◌};
 ghost use Rattle.table.specs.Layout.{count_in, zone_count, window_count, zone_places, window_places, zone_limit_in, window_limit_in, generation_in, counted, new_table};
 ghost use Rattle.table.specs.Limits.{rules_of};
 
+use crate::Limits;
 // An entry stands in its place as in a record.
 pub(crate) use record::entry::ENDED;
 pub use record::entry::{END, MARK, MOST_NAME, NAME, NAME_LENGTH, START};
-use crate::Limits;
 use word::or_zero::u8_at;
 
 // How many bytes a table has.

@@ -15,7 +15,7 @@ ghost use Rattle.table.specs.Left.{new_said, new_left, time_zone_said, time_zone
 
 use layout::{MOST_WINDOWS, MOST_ZONES, SIZE, WINDOW_COUNT, ZONE_COUNT, count_change};
 use model::Refusal;
-use word::or_zero::{put_u8, u8_at};
+use word::or_zero::put_u8;
 
 // The limits of a list store: how many zones it takes, and how many windows.
 #[derive(Clone, Copy, PartialEq, Eq)]
@@ -67,6 +67,7 @@ pub fn new(table: &mut [u8], zone_limit: usize, window_limit: usize) -> Result<(
 }
 
 // Leaves no window, and counts the change.
+#[tactic(auto, unfolding(crate::specs::Layout::with_windows, crate::specs::Layout::put_entries))]
 fn drop_windows(table: &mut [u8])
     ensures { table.new ≡ counted (with_windows table.old []) }
 {
@@ -76,6 +77,7 @@ fn drop_windows(table: &mut [u8])
 
 // SetTimeZone, with room for a record of so many bytes: the zones of an accepted request are copied to their places, and there is no
 // window any more.
+#[tactic(auto, using(crate::proofs::Room::zones_by_room, crate::proofs::Requests::left_by_zones), unfolding(crate::specs::Left::time_zone_said, crate::specs::Left::time_zone_left))]
 pub fn set_time_zone(table: &mut [u8], request: &[u8], room: usize) -> Result<(), Refusal>
     ensures { (result ≡ time_zone_said table.old request.now room)
         × (table.new ≡ time_zone_left table.old request.now room) }
@@ -85,9 +87,7 @@ pub fn set_time_zone(table: &mut [u8], request: &[u8], room: usize) -> Result<()
     if room <= request.len() {
         return Err(Refusal::NoSpace);
     }
-    let n = u8_at(request, 0);
-    put_u8(table, ZONE_COUNT, n);
-    entries::put_zones(table, request, 1, n);
+    entries::put_zones(table, request, 0);
     drop_windows(table);
     Ok(())
 }
@@ -101,7 +101,7 @@ pub fn empties(cause: Refusal) -> bool
 
 // SetDSTOffset, with room for a record of so many bytes: the windows of an accepted request are copied to their places; turned down for
 // what they say they leave none.
-#[tactic(auto, using(crate::proofs::Bounds::zones_most))]
+#[tactic(auto, using(crate::proofs::Bounds::zones_most, crate::proofs::Room::windows_by_room, crate::proofs::Requests::left_by_windows), unfolding(crate::specs::Left::dst_offset_said, crate::specs::Left::dst_offset_left))]
 pub fn set_dst_offset(table: &mut [u8], request: &[u8], room: usize) -> Result<(), Refusal>
     ensures { (result ≡ dst_offset_said table.old request.now room)
         × (table.new ≡ dst_offset_left table.old request.now room) }
@@ -116,14 +116,13 @@ pub fn set_dst_offset(table: &mut [u8], request: &[u8], room: usize) -> Result<(
     if room < write::zones_length(table) + request.len() {
         return Err(Refusal::NoSpace);
     }
-    let n = u8_at(request, 0);
-    put_u8(table, WINDOW_COUNT, n);
-    entries::put_windows(table, request, 1, n);
+    entries::put_windows(table, request, 0);
     count_change(table);
     Ok(())
 }
 
 // Loads a stored record: the entries of an accepted one are copied to their places, and no change is counted; else nothing changes.
+#[tactic(auto, using(crate::proofs::Records::left_by_load), unfolding(crate::specs::Left::load_said, crate::specs::Left::load_left))]
 pub fn load(table: &mut [u8], stored: &[u8]) -> Result<(), Refusal>
     ensures { (result ≡ load_said table.old stored.now) × (table.new ≡ load_left table.old stored.now) }
 {
@@ -132,16 +131,13 @@ pub fn load(table: &mut [u8], stored: &[u8]) -> Result<(), Refusal>
         layout::zone_limit(table),
         layout::window_limit(table),
     )?;
-    let zones = u8_at(stored, 0);
-    put_u8(table, ZONE_COUNT, zones);
-    let at = entries::put_zones(table, stored, 1, zones);
-    let windows = u8_at(stored, at);
-    put_u8(table, WINDOW_COUNT, windows);
-    entries::put_windows(table, stored, at + 1, windows);
+    let at = entries::put_zones(table, stored, 0);
+    entries::put_windows(table, stored, at);
     Ok(())
 }
 
 // Factory reset: no zone and no window.
+#[tactic(auto, unfolding(crate::specs::Left::reset_left, crate::specs::Layout::with_zones, crate::specs::Layout::put_entries))]
 pub fn factory_reset(table: &mut [u8])
     ensures { table.new ≡ reset_left table.old }
 {
