@@ -1,9 +1,9 @@
 pub mod Laws
+pub mod Rows
 pub mod Spelling
 pub mod Endian
 pub mod Parts
 pub mod Integers
-pub mod Rows
 pub mod Places
 pub mod Answers
 pub mod Frame

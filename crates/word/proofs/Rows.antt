@@ -1,75 +1,65 @@
--- Where a byte stands in the table, and a turn of the loop.
-use Rattle.std.specs.Prelude.{Option, Some}
-use Prim.Native.Nat.{ℕ, zero, suc, ◌+◌, ◌-◌, ◌≤◌, ◌<◌}
-use mathlib.Core.Path.{◌≡◌, refl, sym, ap, ◌∙◌}
-use mathlib.Core.Bool.{Bool, true, false, ◌&&◌}
-use mathlib.Core.List.{List, [], ◌∷◌}
-use native.Mathlib.Numerals.{add-one}
-use native.Mathlib.Omega.{arith}
-use borrow.Author.Tests.{le-leb, lt-leb}
-use lib.Dec.{leb, eqb, eqb-suc-zero}
-use lib.ListN.{length, drop, get_or, replicate}
-use lib.Seq.{drop-cons}
-use Rattle.model.specs.Bytes.{Range, ◌··◌, within, row, table, follow, goes_on, well_formed}
-use Rattle.word.specs.Lead.{due}
+-- The UTF-8 table by a first byte, and the ranges of its rows.
+use Rattle.std.proofs.Common.{Bool, true, false, ◌&&◌, not, List, [], ◌∷◌, ◌≡◌, refl, ap, ◌∙◌, ℕ, suc, ◌+◌, ◌<◌, length, map, drop, get_or, Option, None, Some, Bor, arith, add-one, drop-cons}
+use Rattle.std.proofs.lemmas.Bool.{not-true}
+use Rattle.std.proofs.lemmas.Bool.Decides.{nat_tests}
+use Rattle.std.proofs.lemmas.List.Elements.{All-get_or}
+use Rattle.std.proofs.lemmas.List.Sums.{AllPass-from_list_all}
+use Rattle.std.specs.Ordering.{nat_cmp}
+use Rattle.std.specs.declared.ops.RangeInclusive.{RangeInclusive}
+use Rattle.std.specs.Range.{range_inclusive_contains, range_inclusive_exhausted}
+use Rattle.model.specs.Bytes.{Range, within, row, table, follow, goes_on, well_formed}
+use Rattle.word.specs.Ranges.{range_of, AllFresh, Behind, BehindFirst}
 
-and_false : (t : Bool) → t && false ≡ false
-and_false true = refl
-and_false false = refl
-
-module _ (a lo hi : ℕ) where
-  pub inside : lo ≤ a → a ≤ hi → within (lo ·· hi) a ≡ true
-  inside l h = simp (le-leb lo a l, le-leb a hi h)
-
-  pub below : a < lo → within (lo ·· hi) a ≡ false
-  below l = simp (lt-leb lo a l)
-
-  pub above : hi < a → within (lo ·· hi) a ≡ false
-  above l = ap (λ (t : Bool). leb lo a && t) (lt-leb a hi l) ∙ and_false (leb lo a)
-
-module _ (a lo hi : ℕ) (rest : List Range) (other : Option (List Range)) where
-  pub here : lo ≤ a → a ≤ hi → Some rest ≡ row a (lo ·· hi) rest other
-  unfolding row
-  here l h = rw (inside a lo hi l h)
-
-module _ (a lo hi : ℕ) (rest : List Range) (other : Option (List Range)) {x : Option (List Range)} where
-  pub short : a < lo → x ≡ other → x ≡ row a (lo ·· hi) rest other
-  unfolding row
-  short l e = rw (below a lo hi l) e
-
-  pub past : hi < a → x ≡ other → x ≡ row a (lo ·· hi) rest other
-  unfolding row
-  past l e = rw (above a lo hi l) e
-
--- bytes from 0x80 to 0xBF alone
-rest_due : (n : ℕ) → replicate n (0x80 ·· 0xBF) ≡ due n 0x80 0xBF
-rest_due zero = refl
-rest_due (suc n) = refl
-
-pub at_end : (left lo hi : ℕ) → goes_on [] (due left lo hi) ≡ eqb left 0
+-- what the table says of a first byte
+pub by_table : (b : ℕ) (s : List ℕ) (o : Option (List Range)) → table b ≡ o → well_formed (b ∷ s) ≡ follow o (goes_on s)
 unfolding goes_on
-at_end zero lo hi = refl
-at_end (suc n) lo hi = sym (eqb-suc-zero n)
+by_table b s o e = ap (λ (x : Option (List Range)). follow x (goes_on s)) e
 
--- a turn of the loop, at the byte b in front of s
-pub first_byte : (b : ℕ) (s : List ℕ) (left lo hi : ℕ) {o : Option (List Range)} → left ≡ 0 → o ≡ table b → goes_on (b ∷ s) (due left lo hi) ≡ follow o (goes_on s)
-unfolding goes_on
-first_byte b s left lo hi z e = ap (λ (n : ℕ). goes_on (b ∷ s) (due n lo hi)) z ∙ ap (λ (x : Option (List Range)). follow x (goes_on s)) (sym e)
-
-pub next_byte : (b : ℕ) (s : List ℕ) (left lo hi : ℕ) → (left ≡ 0 → ⊥) → goes_on (b ∷ s) (due left lo hi) ≡ within (lo ·· hi) b && goes_on s (due (left - 1) 0x80 0xBF)
-unfolding goes_on
-next_byte b s zero lo hi h = absurd (h refl)
-next_byte b s (suc n) lo hi h =
-    let e : suc n - 1 ≡ n = omega arith in
-    ap (λ (rs : List Range). within (lo ·· hi) b && goes_on s rs) (rest_due n ∙ ap (λ (k : ℕ). due k 0x80 0xBF) (sym e))
-
-pub head_is : (s : List ℕ) (i : ℕ) (rs : List Range) → i < length s → goes_on (drop i s) rs ≡ goes_on (get_or s i 0 ∷ drop (i + 1) s) rs
-head_is s i rs h = rw (add-one, drop-cons s i 0)
+-- bytes after it in the ranges of its row
+pub by_row : (b : ℕ) (s : List ℕ) (rs : List Range) (r : Option (Bor (List ℕ))) → table b ≡ Some rs → Behind s rs r → BehindFirst b s r
+by_row b s rs None e p = by_table b s (Some rs) e ∙ p
+by_row b s rs (Some rest) e p = (by_table b s (Some rs) e ∙ p.0, p.1)
 
 -- bytes below 0x80 are characters by themselves
-pub ascii_text : (s : List ℕ) → ((i : ℕ) → get_or s i 0 < 0x80) → well_formed s ≡ true
+plain : (b : ℕ) → b < 0x80 → table b ≡ Some []
+unfolding row
+plain b h = grind (arith, nat_tests)
+
+pub none_left : (s : List ℕ) → length s < 1 → well_formed s ≡ true
 unfolding goes_on
-ascii_text [] p = refl
-ascii_text (x ∷ s) p =
-    ap (λ (o : Option (List Range)). follow o (goes_on s)) (sym (here x 0x00 0x7F [] _ (omega arith) (omega (arith, p 0))))
-    ∙ ascii_text s (λ i. p (suc i))
+none_left [] h = refl
+none_left (b ∷ s) h = absurd (omega arith)
+
+pub ascii_text : (s : List ℕ) → ((i : ℕ) → get_or s i 0 < 0x80) → well_formed s ≡ true
+ascii_text [] p = none_left [] (omega arith)
+ascii_text (x ∷ s) p = by_table x s (Some []) (plain x (p 0)) ∙ ascii_text s (λ i. p (suc i))
+
+-- what `contains` answers of a range that no value was taken off
+in_range : (r : RangeInclusive ℕ) (b : ℕ) → range_inclusive_exhausted r ≡ false → range_inclusive_contains (λ x y. Some (nat_cmp x y)) r b ≡ within (range_of r) b
+in_range r b e = rw e (grind (arith, nat_tests))
+
+-- past the end of the ranges
+abbrev past : RangeInclusive ℕ
+past = record { start = 0; end = 0; exhausted = false }
+
+module _ (rs : List (RangeInclusive ℕ)) (i : ℕ) (h : i < length rs) where
+  first_range : map range_of (drop i rs) ≡ range_of (get_or rs i past) ∷ map range_of (drop (i + 1) rs)
+  first_range = rw (add-one, drop-cons rs i past)
+
+  -- no byte is left for a range
+  pub no_byte : (s : List ℕ) → length s ≡ 0 → goes_on s (map range_of (drop i rs)) ≡ false
+  unfolding goes_on
+  no_byte [] z = rw first_range
+  no_byte (b ∷ s) z = absurd (omega arith)
+
+  fresh : AllFresh rs → range_inclusive_exhausted (get_or rs i past) ≡ false
+  fresh f =
+      let test = λ (r : RangeInclusive ℕ). not (range_inclusive_exhausted r) in
+      not-true _ (All-get_or (λ r. test r ≡ true) rs i past h (AllPass-from_list_all test rs f))
+
+  -- a byte for a range, by what `contains` answers of it
+  pub one_byte : (s : List ℕ) (b : ℕ) (t : List ℕ) (v : Bool) → AllFresh rs → s ≡ b ∷ t
+      → v ≡ range_inclusive_contains (λ x y. Some (nat_cmp x y)) (get_or rs i past) b
+      → goes_on s (map range_of (drop i rs)) ≡ v && goes_on t (map range_of (drop (i + 1) rs))
+  unfolding goes_on
+  one_byte s b t v f e q = rw (e, first_range, q, in_range (get_or rs i past) b (fresh f))

@@ -1,4 +1,4 @@
 -- What the contracts of `word` cite.
 pub mod Place
-pub mod Lead
+pub mod Ranges
 pub mod Examples

@@ -39,7 +39,8 @@ fn put_bytes(out: &mut [u8], at: usize, part: &[u8]) -> bool
     false
 }
 
-// Writes words one after another, each by way of an array: one load and one store.
+// Writes words one after another, each by way of an array: one load and one store. Here and below the place comes from `enumerate`: zipped
+// with `chunks_exact_mut` or `iter_mut` the proof doesn't close, since std says nothing of what the slice ends as.
 fn put_words(out: &mut [u8], words: &[[u8; WORD]])
     requires { length out.old ≡ 8 * length words.now }
     ensures { out.new ≡ all_bytes (λ w. w) words.now }

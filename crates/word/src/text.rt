@@ -1,72 +1,58 @@
-// Well-formed UTF-8, by the table of the Unicode Standard.
-ghost use Rattle.std.specs.Prelude.{◌≡◌, List, ◌∷◌, ℕ};
-ghost use Rattle.model.specs.Bytes.{well_formed, table, goes_on, follow};
+// Well-formed UTF-8, by the table of the Unicode Standard. Not by std's `from_utf8`: its contract says `IsUtf8`, which is defined by the
+// encodings of scalar values and not by the table.
+ghost use Rattle.std.specs.Prelude.{◌≡◌, ◌∷◌, map};
+ghost use Rattle.model.specs.Bytes.{well_formed};
 ghost use Rattle.word.specs.Place.{text_at};
-ghost use Rattle.word.specs.Lead.{ranges, follows};
+ghost use Rattle.word.specs.Ranges.{range_of, AllFresh, Behind, BehindFirst};
 
-// What follows a first byte: `left` bytes, the first of them from `lo` to `hi` and the others from 0x80 to 0xBF.
-#[derive(Clone, Copy)]
-struct Lead {
-    left: u8,
-    lo: u8,
-    hi: u8,
+use std::ops::RangeInclusive;
+
+// What is left of s behind bytes in these ranges, one after another, where it begins with such.
+fn after<'a>(s: &'a [u8], ranges: &[RangeInclusive<u8>]) -> Option<&'a [u8]>
+    requires { AllFresh ranges.now }
+    ensures { Behind s.now (map range_of ranges.now) result }
+{
+    let mut left = s;
+    for range in ranges {
+        let (byte, rest) = left.split_first()?;
+        if !range.contains(byte) {
+            return None;
+        }
+        left = rest;
+    }
+    Some(left)
 }
 
-// The row of the table that a first byte picks.
-fn start(b: u8) -> Option<Lead>
-    ensures { follows result ≡ table b }
+// What is left behind a character with this first byte, where the rest of it follows: a row of the table to an arm.
+fn after_first(first: u8, s: &[u8]) -> Option<&[u8]>
+    ensures { BehindFirst first s.now result }
 {
-    let (left, lo, hi) = match b {
-        0x00..=0x7F => (0, 0x80, 0xBF),
-        0xC2..=0xDF => (1, 0x80, 0xBF),
-        0xE0 => (2, 0xA0, 0xBF),
-        0xE1..=0xEC => (2, 0x80, 0xBF),
-        0xED => (2, 0x80, 0x9F),
-        0xEE..=0xEF => (2, 0x80, 0xBF),
-        0xF0 => (3, 0x90, 0xBF),
-        0xF1..=0xF3 => (3, 0x80, 0xBF),
-        0xF4 => (3, 0x80, 0x8F),
-        _ => return None,
-    };
-    Some(Lead { left, lo, hi })
-}
-
-// What is due after a byte, if it may stand there: no byte is due between characters.
-fn after(due: Lead, b: u8) -> Option<Lead>
-    ensures { (rest : List ℕ) → goes_on (b ∷ rest) (ranges due) ≡ follow (follows result) (goes_on rest) }
-{
-    if due.left == 0 {
-        return start(b);
+    match first {
+        0x00..=0x7F => Some(s),
+        0xC2..=0xDF => after(s, &[0x80..=0xBF]),
+        0xE0 => after(s, &[0xA0..=0xBF, 0x80..=0xBF]),
+        0xE1..=0xEC => after(s, &[0x80..=0xBF, 0x80..=0xBF]),
+        0xED => after(s, &[0x80..=0x9F, 0x80..=0xBF]),
+        0xEE..=0xEF => after(s, &[0x80..=0xBF, 0x80..=0xBF]),
+        0xF0 => after(s, &[0x90..=0xBF, 0x80..=0xBF, 0x80..=0xBF]),
+        0xF1..=0xF3 => after(s, &[0x80..=0xBF, 0x80..=0xBF, 0x80..=0xBF]),
+        0xF4 => after(s, &[0x80..=0x8F, 0x80..=0xBF, 0x80..=0xBF]),
+        _ => None,
     }
-    if b < due.lo {
-        return None;
-    }
-    if due.hi < b {
-        return None;
-    }
-    Some(Lead {
-        left: due.left - 1,
-        lo: 0x80,
-        hi: 0xBF,
-    })
 }
 
 // Whether s is well-formed UTF-8, character by character.
 fn characters(s: &[u8]) -> bool
     ensures { result ≡ well_formed s.now }
 {
-    let mut due = Lead {
-        left: 0,
-        lo: 0x80,
-        hi: 0xBF,
-    };
-    for b in s {
-        let Some(next) = after(due, *b) else {
+    let mut left = s;
+    while let [first, rest @ ..] = left {
+        let Some(next) = after_first(*first, rest) else {
             return false;
         };
-        due = next;
+        left = next;
     }
-    due.left == 0
+    true
 }
 
 // Whether s is well-formed UTF-8; most names are plain.
@@ -80,8 +66,5 @@ pub fn utf8(s: &[u8]) -> bool
 pub fn utf8_at(s: &[u8], at: usize, n: usize) -> bool
     ensures { result ≡ text_at s.now at n }
 {
-    if crate::in_bounds(s, at, n) {
-        return utf8(&s[at..at + n]);
-    }
-    false
+    crate::in_bounds(s, at, n) && utf8(&s[at..at + n])
 }

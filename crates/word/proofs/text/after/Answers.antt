@@ -1,17 +1,23 @@
 -- `word::text::after` meets its contract.
-use mathlib.Core.Path.{◌∙◌}
-use Rattle.word.proofs.Rows.{below, above, inside, first_byte, next_byte}
+use Rattle.std.proofs.Common.{subst, sym, ◌∙◌, arith}
+use Rattle.word.specs.Ranges.{Behind}
+use Rattle.word.proofs.Rows.{no_byte, one_byte}
 use Rattle.word.proofs.text.after.Goals as goal
 
-pub returns-then-due-eq0 : goal.returns-then-due-eq0
-returns-then-due-eq0 c rest = first_byte c.args.b rest c.args.due.left c.args.due.lo c.args.due.hi c.if-due-eq0.true c.start.ensures
+pub returns-in_err-byte : goal.returns-in_err-byte
+returns-in_err-byte c =
+    let l = c.loop-range in
+    let none = no_byte c.args.ranges.now l.range-index c.loop-range-test.true l.left.now c.in_err-byte.ensures.cases in
+    subst (Behind c.args.s.now _) (sym c.from_residual.ensures) (l.invariant.0 ∙ none)
 
-pub returns-then-b-due : goal.returns-then-b-due
-returns-then-b-due c rest = next_byte c.args.b rest c.args.due.left c.args.due.lo c.args.due.hi c.if-due-eq0.false ∙ rw (below _ _ _ c.if-b-due.true)
+pub returns-then-not-contains : goal.returns-then-not-contains
+returns-then-not-contains c =
+    let l = c.loop-range in
+    l.invariant.0
+    ∙ one_byte c.args.ranges.now l.range-index c.loop-range-test.true l.left.now _ _ _ c.requires c.in_ok-byte.ensures.cases.0 c.if-not-contains.ensures.value
 
-pub returns-then-due-b : goal.returns-then-due-b
-returns-then-due-b c rest = next_byte c.args.b rest c.args.due.left c.args.due.lo c.args.due.hi c.if-due-eq0.false ∙ rw (above _ _ _ c.if-due-b.true)
-
-pub returns : goal.returns
-returns c rest =
-    next_byte c.args.b rest c.args.due.left c.args.due.lo c.args.due.hi c.if-due-eq0.false ∙ rw (inside _ _ _ c.if-b-due.false c.if-due-b.false)
+pub loop-range-preserved : goal.loop-range-preserved
+loop-range-preserved c =
+    let l = c.loop-range in
+    let one = one_byte c.args.ranges.now l.range-index c.loop-range-test.true l.left.now _ _ _ c.requires c.in_ok-byte.ensures.cases.0 c.if-not-contains.ensures.value in
+    (l.invariant.0 ∙ one, omega (arith, c.in_ok-byte.ensures.cases.1))

@@ -1,8 +1,10 @@
--- s is well formed where what is left of it goes on the character that was begun.
-use Rattle.std.proofs.Common.{◌≡◌, drop}
-use Rattle.model.specs.Bytes.{well_formed, goes_on}
-use Rattle.word.specs.Lead.{ranges}
+-- What is left is well formed where s is; each turn takes a character off.
+use Rattle.std.proofs.Common.{◌≡◌, length}
+use Rattle.model.specs.Bytes.{well_formed}
 use Rattle.word.proofs.text.characters.Given as goal
 
-abbrev pub invariant-loop-b : goal.invariant-loop-b
-invariant-loop-b l = well_formed l.s ≡ goes_on (drop l.b-index l.s) (ranges l.due)
+abbrev pub invariant-loop-left : goal.invariant-loop-left
+invariant-loop-left l = well_formed l.s ≡ well_formed l.left
+
+abbrev pub decreases-loop-left : goal.decreases-loop-left
+decreases-loop-left l = length l.left
