@@ -2,6 +2,8 @@
 pub mod Entries
 pub mod Maps
 pub mod Soonest
+pub mod Places
+pub mod Back
 pub mod Views
 pub mod Names
 pub mod Walked

@@ -1,33 +1,26 @@
 -- A name that is shown stands inside the table.
-use Rattle.std.proofs.Common.{◌≡◌, ℕ, zero, suc, ◌+◌, ◌-◌, ◌≤◌, ◌<◌, Bool, leb, ltb, eqb, ◌&&◌, List, Option, IfSome, arith}
-use borrow.Author.Tests.{ltb-true}
-use Rattle.model.specs.Basics.{keep, last}
+use Rattle.std.specs.Prelude.{None, Some}
+use Rattle.std.proofs.Common.{◌≡◌, ℕ, ◌+◌, ◌<◌, leb, ltb, eqb, ◌&&◌, List, Option, IfSome, ltb-true, arith}
 use Rattle.model.proofs.Facts.{by_test}
-use Rattle.table.specs.Layout.{mark_at, zone_count_place, zone_place, zone_at, entries_from, zone_count}
+use Rattle.table.specs.Layout.{mark_at, zone_count_place, zone_place, zone_at, zone_count}
 use Rattle.table.proofs.Counts.{count_most, zone_stands}
 use Rattle.lookups.specs.declared.ZoneShown.{ZoneShown}
 use Rattle.lookups.specs.Shown.{shown_at, shown_by, active_index, zone_listed_in}
 use Rattle.lookups.specs.Laws.{EndsInside, NameInPlace}
-use Rattle.lookups.proofs.Entries.{last_hit, last_miss}
+use Rattle.lookups.proofs.Entries.{last_below}
 
 module _ (s : List ℕ) where
   -- of the zone with an index
   inside : (i : ℕ) → i < 8 → EndsInside (shown_at s (zone_place i))
   inside i h = by_test (mark_at s (zone_place i + 12)) (λ e. rw e (omega arith, omega arith)) (λ e. rw e tt)
 
-  -- of the last of some zones that passes a test
-  last_inside : (test : ℕ → Bool) (n : ℕ) → n ≤ 8 → EndsInside (shown_by s (last (keep test (entries_from (λ k. k) 0 n))))
-  unfolding last keep entries_from
-  last_inside test zero h = tt
-  last_inside test (suc n) h =
-      let e : suc n - 1 ≡ n = omega arith in
-      by_test (test (suc n - 1))
-      (λ t. rw (last_hit test (λ k. k) (suc n) (omega arith) t) (inside (suc n - 1) (omega arith)))
-      (λ t. rw (last_miss test (λ k. k) (suc n) (omega arith) t, e) (last_inside test n (omega arith)))
+  shown_inside : (o : Option ℕ) → IfSome o (λ i. i < zone_count s) → EndsInside (shown_by s o)
+  shown_inside None h = tt
+  shown_inside (Some i) h = inside i (omega (arith, count_most zone_count_place 8 s))
 
   active_inside : (now : ℕ) → EndsInside (shown_by s (active_index s now))
   unfolding active_index
-  active_inside now = last_inside (λ i. leb (zone_at s (zone_place i)).start now) (zone_count s) (count_most zone_count_place 8 s)
+  active_inside now = let test = λ (i : ℕ). leb (zone_at s (zone_place i)).start now in shown_inside (active_index s now) (last_below test (zone_count s))
 
   listed_inside : (i : ℕ) → IfSome (zone_listed_in s i) EndsInside
   unfolding zone_listed_in

@@ -4,7 +4,7 @@ use Rattle.model.specs.Basics.{keep, last}
 use Rattle.model.specs.Lists.{Window}
 use Rattle.word.specs.Place.{byte_at}
 use Rattle.table.specs.Layout.{mark_at, zone_place, window_place, zone_at, window_at, entries_from, zone_count, window_count}
-use Rattle.lookups.specs.declared.NamePlace.{NamePlace}
+use Rattle.record.specs.declared.NamePlace.{NamePlace}
 use Rattle.lookups.specs.declared.ZoneShown.{ZoneShown}
 use Rattle.lookups.specs.declared.DSTOffsetEntry.{DSTOffsetEntry}
 
@@ -25,6 +25,10 @@ blank_shown = record { offset = pos 0; valid_at = 0; name = None }
 abbrev pub shown_by : List ℕ → Option ℕ → ZoneShown
 shown_by s None = blank_shown
 shown_by s (Some i) = shown_at s (zone_place i)
+
+-- the zone with an index, if it is there
+unfoldable pub zone_there : List ℕ → ℕ → Option ZoneShown
+zone_there s i = cond (ltb i (zone_count s)) (Some (shown_at s (zone_place i))) None
 
 -- the indices of the zones, in order
 abbrev pub zone_indices : List ℕ → List ℕ

@@ -3,11 +3,6 @@ use Rattle.std.specs.Prelude.{cond, List, [], ◌∷◌, ◌++◌, ℕ, ◌-◌,
 use Rattle.model.specs.Walk as M
 use Rattle.lookups.specs.declared.Walk.{Walk}
 
--- an end, or 0 where there is none: 0 is after no moment
-unfoldable pub end_or_zero : Option ℕ → ℕ
-end_or_zero None = 0
-end_or_zero (Some e) = e
-
 -- the sooner of the best so far, 0 for none, and a moment, if that is after now
 unfoldable pub sooner : ℕ → ℕ → ℕ → ℕ
 sooner now best t = cond (ltb now t) (cond (eqb best 0) t (min best t)) best

@@ -1,25 +1,18 @@
 // What is looked up in the lists of a table, in their places: nothing is copied.
 #![tactic(auto)]
 
-mod held;
 pub mod transitions;
 pub mod windows;
 pub mod zones;
 
-ghost use Rattle.std.specs.Prelude.{suc, ◌≡◌, ◌<◌, take};
-ghost use Rattle.table.specs.Layout.{zone_place, window_place};
+ghost use Rattle.std.specs.Prelude.{suc, ◌≡◌, take, option_copied};
+ghost use Rattle.lookups.specs.Laws.{shown_name};
 
-use table::layout::{MOST_WINDOWS, MOST_ZONES, WINDOW_SIZE, WINDOWS, ZONE_SIZE, ZONES};
+pub use record::NamePlace;
+use table::layout::{MOST_WINDOWS, MOST_ZONES};
 
-// Where a name stands in the table.
-#[derive(Clone, Copy)]
-pub struct NamePlace {
-    pub at: usize,
-    pub len: usize,
-}
-
-// A zone, its name by its place in the table.
-#[derive(Clone, Copy)]
+// A zone, its name by its place in the table; by default none: offset 0 from moment 0 with no name.
+#[derive(Clone, Copy, Default)]
 pub struct ZoneShown {
     pub offset: i32,
     pub valid_at: u64,
@@ -57,18 +50,13 @@ impl Walk {
     }
 }
 
-// Where the zone with index i stands. Crate `table` has the same for itself: no public function has a `requires`.
-fn zone_place(i: usize) -> usize
-    requires { i < 8 }
-    ensures { result ≡ zone_place i }
-{
-    ZONES + ZONE_SIZE * i
-}
-
-// Where the window with index i stands. Crate `table` has the same for itself: no public function has a `requires`.
-fn window_place(i: usize) -> usize
-    requires { i < 16 }
-    ensures { result ≡ window_place i }
-{
-    WINDOWS + WINDOW_SIZE * i
+impl ZoneShown {
+    // The name, or what of it stands in the table.
+    pub fn name_in<'a>(&self, table: &'a [u8]) -> Option<&'a [u8]>
+        ensures { option_copied result ≡ shown_name table.now self.now }
+    {
+        let place = self.name?;
+        let rest = table.get(place.at..).unwrap_or_default();
+        Some(rest.get(..place.len).unwrap_or(rest))
+    }
 }

@@ -1,14 +1,14 @@
 // The next transition, and the walk from one to the next.
-ghost use Rattle.std.specs.Prelude.{◌≡◌, ◌<◌, ◌≤◌, length};
+ghost use Rattle.std.specs.Prelude.{◌≡◌};
 ghost use Rattle.model.specs.Lookups.{next_transition, zone_starts, window_bounds};
 ghost use Rattle.model.specs.Walk as W;
-ghost use Rattle.lookups.specs.Transitions.{end_or_zero, sooner, soonest, moment_of, walk_owned};
-ghost use Rattle.table.specs.Layout.{table_size, window_place, window_at, zones_in, windows_in, lists_in};
+ghost use Rattle.lookups.specs.Transitions.{sooner, soonest, moment_of, walk_owned};
+ghost use Rattle.table.specs.Layout.{zones_in, windows_in, lists_in};
 
-use crate::held::u64_at;
 use crate::windows::window_end;
-use crate::{MOST_MOMENTS, MOST_STEPS, Walk, window_place, zone_place};
-use table::layout::{START, window_count, zone_count};
+use crate::{MOST_MOMENTS, MOST_STEPS, Walk};
+use table::layout::{START, windows, zones};
+use word::or_zero::u64_at;
 
 // The sooner of the best so far, 0 for none, and a moment, if that is after now. An `Option` for the best so far was tried: the walk then
 // takes 1.7 times as many instructions, and more than the Rust's.
@@ -25,38 +25,23 @@ fn sooner_of(utc: u64, best: u64, t: u64) -> u64
     best.min(t)
 }
 
-// The end of the window with index i, or 0 where there is none: 0 is after no moment.
-#[tactic(auto, unfolding(crate::specs::Transitions::end_or_zero))]
-fn end_or_zero(table: &[u8], i: usize) -> u64
-    requires { (i < 16) × (table_size ≤ length table.now) }
-    ensures { result ≡ end_or_zero ((window_at table.now (window_place i)).until) }
-{
-    window_end(table, i).unwrap_or(0)
-}
-
 // The soonest start of a zone after now, 0 for none.
-#[tactic(auto, using(crate::proofs::Soonest::past_zone, crate::proofs::Soonest::zones_over, crate::proofs::Entries::whole), unfolding(table::specs::Layout::zones_in))]
 fn zone_transition(table: &[u8], utc: u64) -> u64
     ensures { result ≡ soonest utc 0 (zone_starts (zones_in table.now)) }
 {
-    let mut best: u64 = 0;
-    for i in 0..zone_count(table) {
-        best = sooner_of(utc, best, u64_at(table, zone_place(i) + START));
-    }
-    best
+    zones(table).iter().fold(0, |best, place| {
+        sooner_of(utc, best, u64_at(place, START))
+    })
 }
 
-// The sooner of the best so far and the starts and ends of the windows after now.
-#[tactic(auto, using(crate::proofs::Soonest::past_window, crate::proofs::Soonest::windows_over, crate::proofs::Entries::whole), unfolding(table::specs::Layout::windows_in))]
+// The sooner of the best so far and the starts and ends of the windows after now; 0, for no end, is after no moment.
 fn window_transition(table: &[u8], utc: u64, sofar: u64) -> u64
     ensures { result ≡ soonest utc sofar (window_bounds (windows_in table.now)) }
 {
-    let mut best = sofar;
-    for i in 0..window_count(table) {
-        best = sooner_of(utc, best, u64_at(table, window_place(i) + START));
-        best = sooner_of(utc, best, end_or_zero(table, i));
-    }
-    best
+    windows(table).iter().fold(sofar, |best, place| {
+        let best = sooner_of(utc, best, u64_at(place, START));
+        sooner_of(utc, best, window_end(place).unwrap_or(0))
+    })
 }
 
 // A moment that was found, or none for 0.

@@ -1,101 +1,88 @@
-// Lookups in the list of windows. The searches are loops: for a chain over indices from the end (`rev().any(..)`) std has no lemma that
-// names its answer, and the proof by what each call answered did not close.
-ghost use Rattle.std.specs.Prelude.{◌≡◌, ◌<◌, ◌≤◌, length};
+// Lookups in the list of windows.
+ghost use Rattle.std.specs.Prelude.{◌≡◌};
 ghost use Rattle.model.specs.Lookups.{is_active, is_usable, active_offset, last_active_window, offset_of, usable, table_empty};
-ghost use Rattle.table.specs.Layout.{table_size, window_place, window_at, lists_in};
-ghost use Rattle.lookups.specs.Shown.{window_listed_in};
+ghost use Rattle.table.specs.Layout.{window_at, lists_in};
+ghost use Rattle.lookups.specs.Shown.{window_shown, window_listed_in};
 
-use crate::held::{i32_at, u64_at};
-use crate::{DSTOffsetEntry, window_place};
-use table::layout::{END, MARK, START, window_count};
+use crate::DSTOffsetEntry;
+use table::layout::{END, MARK, START, WINDOW_SIZE, windows};
+use word::or_zero::{i32_at, u64_at};
 
-// The end of the window with index i, if it has one.
-pub(crate) fn window_end(table: &[u8], i: usize) -> Option<u64>
-    requires { (i < 16) × (table_size ≤ length table.now) }
-    ensures { result ≡ (window_at table.now (window_place i)).until }
+// The end of the window in a place, if it has one.
+pub(crate) fn window_end(place: &[u8; WINDOW_SIZE]) -> Option<u64>
+    ensures { result ≡ (window_at place.now 0).until }
 {
-    let at = window_place(i);
-    if table[at + MARK] == 0 {
+    if place[MARK] == 0 {
         return None;
     }
-    Some(u64_at(table, at + END))
+    Some(u64_at(place, END))
 }
 
-// The window with index i is open or its end is after now, started or not.
-fn is_usable(table: &[u8], i: usize, utc: u64) -> bool
-    requires { (i < 16) × (table_size ≤ length table.now) }
-    ensures { result ≡ is_usable utc (window_at table.now (window_place i)) }
+// The window is open or its end is after now, started or not.
+fn is_usable(place: &[u8; WINDOW_SIZE], utc: u64) -> bool
+    ensures { result ≡ is_usable utc (window_at place.now 0) }
 {
-    window_end(table, i).is_none_or(|end| utc < end)
+    window_end(place).is_none_or(|end| utc < end)
 }
 
-// The window with index i has started and has not ended; the start of one that has ended is not read.
-fn is_active(table: &[u8], i: usize, utc: u64) -> bool
-    requires { (i < 16) × (table_size ≤ length table.now) }
-    ensures { result ≡ is_active utc (window_at table.now (window_place i)) }
+// The window has started and has not ended; the start of one that has ended is not read.
+fn is_active(place: &[u8; WINDOW_SIZE], utc: u64) -> bool
+    ensures { result ≡ is_active utc (window_at place.now 0) }
 {
-    is_usable(table, i, utc) && u64_at(table, window_place(i) + START) <= utc
+    is_usable(place, utc) && u64_at(place, START) <= utc
+}
+
+// The window in a place.
+fn window_shown(place: &[u8; WINDOW_SIZE]) -> DSTOffsetEntry
+    ensures { result ≡ window_shown (window_at place.now 0) }
+{
+    DSTOffsetEntry {
+        offset: i32_at(place, 0),
+        valid_starting: u64_at(place, START),
+        valid_until: window_end(place),
+    }
 }
 
 // The offset of the first active window.
-#[tactic(auto, using(crate::proofs::Entries::first_hit, crate::proofs::Entries::first_miss, crate::proofs::Entries::first_over), unfolding(model::specs::Lookups::active_offset, model::specs::Lookups::active_window, table::specs::Layout::windows_in))]
 pub fn active_dst_offset(table: &[u8], utc: u64) -> Option<i32>
     ensures { result ≡ active_offset (lists_in table.now) utc }
 {
-    for i in 0..window_count(table) {
-        if is_active(table, i, utc) {
-            return Some(i32_at(table, window_place(i)));
-        }
-    }
-    None
+    let active = windows(table).iter().find(|place| is_active(place, utc));
+    active.map(|place| i32_at(place, 0))
 }
 
 // The offset of the last active window, looked for from the end.
-#[tactic(auto, using(crate::proofs::Entries::last_hit, crate::proofs::Entries::last_miss, crate::proofs::Entries::last_over), unfolding(model::specs::Lookups::last_active_window, table::specs::Layout::windows_in))]
 pub fn last_active_dst_offset(table: &[u8], utc: u64) -> Option<i32>
     ensures { result ≡ offset_of (last_active_window (lists_in table.now) utc) }
 {
-    for i in (0..window_count(table)).rev() {
-        if is_active(table, i, utc) {
-            return Some(i32_at(table, window_place(i)));
-        }
-    }
-    None
+    let active = windows(table)
+        .iter()
+        .rev()
+        .find(|place| is_active(place, utc));
+    active.map(|place| i32_at(place, 0))
 }
 
 // Some window is open or ends after now, looked for from the end: the last window runs out last.
-#[tactic(auto, using(crate::proofs::Entries::any_hit, crate::proofs::Entries::any_miss, crate::proofs::Entries::any_over), unfolding(model::specs::Lookups::usable, table::specs::Layout::windows_in))]
 pub fn dst_usable(table: &[u8], utc: u64) -> bool
     ensures { result ≡ usable (lists_in table.now) utc }
 {
-    for i in (0..window_count(table)).rev() {
-        if is_usable(table, i, utc) {
-            return true;
-        }
-    }
-    false
+    windows(table)
+        .iter()
+        .rev()
+        .any(|place| is_usable(place, utc))
 }
 
 // There is no window at all.
-#[tactic(auto, using(crate::proofs::Views::none_there), unfolding(model::specs::Lookups::table_empty, table::specs::Layout::windows_in))]
+#[tactic(auto, using(crate::proofs::Places::none_there))]
 pub fn dst_table_empty(table: &[u8]) -> bool
     ensures { result ≡ table_empty (lists_in table.now) }
 {
-    window_count(table) == 0
+    windows(table).is_empty()
 }
 
 // The window at an index.
-#[tactic(auto, unfolding(crate::specs::Shown::window_listed_in))]
 pub fn dst_offset_at(table: &[u8], i: usize) -> Option<DSTOffsetEntry>
     ensures { result ≡ window_listed_in table.now i }
 {
-    if window_count(table) <= i {
-        return None;
-    }
-    let at = window_place(i);
-    Some(DSTOffsetEntry {
-        offset: i32_at(table, at),
-        valid_starting: u64_at(table, at + START),
-        valid_until: window_end(table, i),
-    })
+    windows(table).get(i).map(window_shown)
 }

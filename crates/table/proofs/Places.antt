@@ -104,7 +104,7 @@ module _ {A B : Type 0} (g : A → B) (f : ℕ → A) (h : ℕ → B) where
 
 -- what is read at a place is read in the bytes of the place
 module _ (s : List ℕ) (n p : ℕ) (h : p + n ≤ length s) where
-  byte_in : (at : ℕ) → at < n → byte_at s (p + at) ≡ byte_at (take n (drop p s)) at
+  pub byte_in : (at : ℕ) → at < n → byte_at s (p + at) ≡ byte_at (take n (drop p s)) at
   byte_in at k = sym (get_or-take n (drop p s) at 0 k ∙ get_or-drop p s at 0)
 
   part_in : (w at : ℕ) → at + w ≤ n → take w (drop (p + at) s) ≡ take w (drop at (take n (drop p s)))
