@@ -1,6 +1,6 @@
 -- What the records of this crate stand for in the definitions. Each is injective, but for `source_set_of`, beside which a contract has
 -- `source_persisted_of`; so a contract that equates meanings leaves one result.
-use Rattle.std.specs.Prelude.{Bool, List, [], ◌∷◌, ◌++◌, ℕ, Option, None, Some, Ok, Err, is_some}
+use Rattle.std.specs.Prelude.{Bool, List, [], ◌∷◌, ◌++◌, ℕ, Option, Ok, Err, is_some, option_map, option_to_list}
 use Rattle.std.specs.Prelude.{Result as StdResult}
 use Rattle.model.specs.Answers.{done, answers, TrustedTimeSource, MissingTrustedTimeSource, TrustedSource, Effect, report, emit, store_moment, remove_moment, store_source, remove_source, Result, unchanged}
 use Rattle.model.specs.Clock.{Clock, Reading, reliable, last_known, utc_reports, Persisted}
@@ -23,8 +23,7 @@ trusted_of t = record { fabric = t.fab_idx; node = t.node_id; endpoint = t.endpo
 
 -- a trusted source, or none
 abbrev pub option_source : Option T.TrustedTimeSource → Option TrustedSource
-option_source None = None
-option_source (Some t) = Some (trusted_of t)
+option_source source = option_map trusted_of source
 
 -- the clock that a record holds, whatever its fields are
 abbrev pub clock_of : Rtc → Clock
@@ -46,8 +45,7 @@ trusted_time_source_of s = record { fab_idx = s.fabric; node_id = s.node; endpoi
 
 -- the struct of a trusted source, or none
 abbrev pub maybe_source : Option TrustedSource → Option T.TrustedTimeSource
-maybe_source None = None
-maybe_source (Some s) = Some (trusted_time_source_of s)
+maybe_source source = option_map trusted_time_source_of source
 
 -- the record that holds a clock
 abbrev pub rtc_of : Clock → Rtc
@@ -83,8 +81,7 @@ utc_time_set_of r = record { state = clock_of r.rtc; answer = answers r.changed;
 
 -- the moment that is to be stored, if there is one
 abbrev pub moment_stored : Option ℕ → List Effect
-moment_stored None = []
-moment_stored (Some moment) = store_moment moment ∷ []
+moment_stored stored = option_to_list (option_map store_moment stored)
 
 -- a persisting setting answers whether something changed and whether the moment is stored; it reports, then stores
 abbrev pub utc_time_persisted_of : UtcTimePersisted → Result Clock Persisted

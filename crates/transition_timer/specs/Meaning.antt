@@ -24,8 +24,7 @@ seen_of s = record { offset = s.offset; active = s.active; usable = s.usable }
 
 -- the timer that last saw this
 abbrev pub timer_of : Option Seen → T.Timer
-timer_of None = None
-timer_of (Some s) = Some (seen_of s)
+timer_of last = option_map seen_of last
 
 abbrev pub sleep_of : Sleep → T.Sleep
 sleep_of Never = T.never
