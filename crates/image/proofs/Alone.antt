@@ -1,8 +1,5 @@
 -- A part that is written leaves the others, and an image.
-use mathlib.Core.Path.{◌∙◌}
-use native.Mathlib.Omega.{arith}
-use lib.ListN.{length-take, length-drop}
-use lib.Seq.{take_all}
+use Rattle.std.proofs.Common.{◌∙◌, arith, take_all, length-take, length-drop}
 use Rattle.table.specs.Layout.{table_size}
 use Rattle.image.specs.Layout.{clock_place, timer_place, client_place, table_place, with_table}
 use Rattle.image.specs.Parts.{clock_bytes, timer_bytes, client_bytes, with_clock, with_timer, with_client}

@@ -1,12 +1,6 @@
 -- A new image has no lists, a fresh clock, a timer that saw nothing and a new client.
-use Rattle.std.specs.Prelude.{None}
-use mathlib.Core.Bool.{Bool, true, false}
-use mathlib.Core.List.{List, [], ◌∷◌, ◌++◌}
-use mathlib.Core.Path.{◌≡◌, refl, sym, ap, ◌∙◌}
-use Prim.Native.Nat.{ℕ, ◌≤◌, min}
-use native.Mathlib.Omega.{arith}
-use lib.ListN.{take, drop}
-use lib.Seq.{take_all}
+use Rattle.std.proofs.Common.{None, Bool, true, false, List, [], ◌∷◌, ◌++◌, ◌≡◌, refl, sym, ap, ◌∙◌, ℕ, ◌≤◌, min, arith, take, drop, take_all}
+use Rattle.std.specs.Int.{from_bool}
 use Rattle.model.specs.Bytes.{bytes, number}
 use Rattle.model.specs.Clock.{fresh}
 use Rattle.model.specs.Lists.{empty}
@@ -14,16 +8,16 @@ use Rattle.model.specs.RoundTrip.{IsMoment}
 use Rattle.model.specs.Rules.{Rules}
 use Rattle.model.specs.Retries.{new_client}
 use Rattle.model.proofs.Stored.{limits as in_range}
-use Rattle.model.proofs.Words.{length_bytes, number_bytes}
+use Rattle.model.proofs.Words.{length_bytes}
 use Rattle.word.specs.Place.{word_at}
 use Rattle.table.specs.Layout.{generation_place, entries_from, zones_in, windows_in, store_in}
 use Rattle.table.specs.Layout as T
 use Rattle.image.specs.Layout.{magic, magic_place, store_place, clock_place, client_place, timer_place, table_place, table_in}
-use Rattle.image.specs.Parts.{bit, limit_of, timer_bytes, clock_bytes, client_bytes, new_bytes, new_image}
+use Rattle.image.specs.Parts.{limit_of, timer_bytes, clock_bytes, client_bytes, new_bytes, new_image}
 use Rattle.image.specs.Laws.{ClockFits, ClientFits, NewIsFresh, LimitsAllowed}
 use Rattle.word.proofs.Frame.{length_placed}
 use Rattle.image.proofs.Written.{length_new, length_table, length_clock, length_client, length_timer}
-use Rattle.image.proofs.Holds.{Holds, placed_holds, holds_byte, holds_word, holds_left, holds_right}
+use Rattle.image.proofs.Holds.{Holds, placed_holds, holds_byte, holds_number, holds_left, holds_right}
 use Rattle.image.proofs.Outside.{is_image_lem}
 use Rattle.image.proofs.Back.{bit_back, clock_reads, timer_reads, client_reads}
 
@@ -51,7 +45,7 @@ limits_low false zones windows h = (omega arith, omega arith)
 -- ## Where the parts of a new image stand
 
 abbrev mark : Bool → List ℕ
-mark there = bit there ∷ 0 ∷ 0 ∷ 0 ∷ []
+mark there = from_bool there ∷ 0 ∷ 0 ∷ 0 ∷ []
 
 abbrev limits : Bool → ℕ → ℕ → Rules
 limits there zones windows = record { zone_limit = limit_of there zones; window_limit = limit_of there windows }
@@ -101,10 +95,10 @@ client_fits period b = record { period = b; retry = omega arith; missing = omega
 magic_reads : (t : List ℕ) → Holds t magic_place (bytes 4 magic) → word_at 4 t magic_place ≡ magic
 magic_reads t h =
     let l = length_bytes 4 magic in
-    holds_word h 4 magic_place 0 refl (omega arith) ∙ ap number (take_all 4 (bytes 4 magic) (omega arith)) ∙ number_bytes 4 magic (omega arith)
+    holds_number h 4 magic magic_place 0 refl (omega arith) (take_all 4 (bytes 4 magic) (omega arith)) (omega arith)
 
 table_reads : (t : List ℕ) (r : Rules) → Holds t table_place (T.new_bytes r) → table_in t ≡ T.new_bytes r
-table_reads t r h = ap (λ (n : ℕ). take n (drop table_place t)) (sym (length_table r)) ∙ h.is
+table_reads t r h = ap (λ n. take n (drop table_place t)) (sym (length_table r)) ∙ h.is
 
 pub new_is_fresh : NewIsFresh
 unfolding new_image

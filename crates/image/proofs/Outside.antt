@@ -1,12 +1,5 @@
 -- The parts of an image that lie outside the bytes that are written.
-use mathlib.Core.Bool.{true}
-use mathlib.Core.List.{List}
-use mathlib.Core.Path.{◌≡◌}
-use Prim.Native.Nat.{ℕ, ◌+◌, ◌≤◌, ◌<◌}
-use native.Mathlib.Omega.{arith}
-use borrow.Author.Tests.{le-leb, leb-true, eqb-true}
-use lib.Dec.{leb}
-use lib.ListN.{length, take, drop}
+use Rattle.std.proofs.Common.{true, List, ◌≡◌, ℕ, ◌+◌, ◌≤◌, ◌<◌, arith, leb, le-leb, leb-true, eqb-true, length, take, drop}
 use Rattle.model.proofs.Facts.{and_both}
 use Rattle.word.specs.Place.{placed, byte_at, word_at}
 use Rattle.table.specs.Layout.{table_size}
@@ -51,17 +44,32 @@ module _ (s : List ℕ) (at : ℕ) (bs : List ℕ) {n : ℕ} (l : length bs ≡ 
 
   -- ## A part at the place p
 
+  module _ (p size : ℕ) (a : Apart at n p (p + size)) where
+    byte : (k : ℕ) → k < size → byte_at (placed s at bs) (p + k) ≡ byte_at s (p + k)
+    byte k h = byte_apart a (p + k) (omega arith) (omega arith)
+
+    word : (w k : ℕ) → k + w ≤ size → word_at w (placed s at bs) (p + k) ≡ word_at w s (p + k)
+    word w k h = word_apart a w (p + k) (omega arith) (omega arith)
+
   pub clock_apart : (p : ℕ) → Apart at n p (p + 40) → clock_at (placed s at bs) p ≡ clock_at s p
   clock_apart p a =
-      rw (byte_apart a p (omega arith) (omega arith), byte_apart a (p + 1) (omega arith) (omega arith), byte_apart a (p + 2) (omega arith) (omega arith), byte_apart a (p + 3) (omega arith) (omega arith), byte_apart a (p + 4) (omega arith) (omega arith), word_apart a 2 (p + 6) (omega arith) (omega arith), word_apart a 8 (p + 8) (omega arith) (omega arith), word_apart a 8 (p + 16) (omega arith) (omega arith), word_apart a 8 (p + 24) (omega arith) (omega arith), word_apart a 8 (p + 32) (omega arith) (omega arith))
+      let b : (k : ℕ) → k < 40 → byte_at (placed s at bs) (p + k) ≡ byte_at s (p + k) = byte p 40 a in
+      let w : (n k : ℕ) → k + n ≤ 40 → word_at n (placed s at bs) (p + k) ≡ word_at n s (p + k) = word p 40 a in
+      let g : byte_at (placed s at bs) p ≡ byte_at s p = byte_apart a p (omega arith) (omega arith) in
+      rw (g, b 1 (omega arith), b 2 (omega arith), b 3 (omega arith), b 4 (omega arith), w 2 6 (omega arith), w 8 8 (omega arith))
+      (rw (w 8 16 (omega arith), w 8 24 (omega arith), w 8 32 (omega arith)))
 
   pub timer_apart : (p : ℕ) → Apart at n p (p + 8) → timer_at (placed s at bs) p ≡ timer_at s p
   timer_apart p a =
-      rw (byte_apart a p (omega arith) (omega arith), byte_apart a (p + 1) (omega arith) (omega arith), byte_apart a (p + 2) (omega arith) (omega arith), word_apart a 4 (p + 4) (omega arith) (omega arith))
+      let m : byte_at (placed s at bs) p ≡ byte_at s p = byte_apart a p (omega arith) (omega arith) in
+      rw (m, byte p 8 a 1 (omega arith), byte p 8 a 2 (omega arith), word p 8 a 4 4 (omega arith))
 
   pub client_apart : (p : ℕ) → Apart at n p (p + 40) → client_at (placed s at bs) p ≡ client_at s p
   client_apart p a =
-      rw (word_apart a 8 p (omega arith) (omega arith), word_apart a 8 (p + 8) (omega arith) (omega arith), word_apart a 8 (p + 16) (omega arith) (omega arith), word_apart a 8 (p + 24) (omega arith) (omega arith), byte_apart a (p + 32) (omega arith) (omega arith), byte_apart a (p + 33) (omega arith) (omega arith))
+      let b : (k : ℕ) → k < 40 → byte_at (placed s at bs) (p + k) ≡ byte_at s (p + k) = byte p 40 a in
+      let w : (k : ℕ) → k + 8 ≤ 40 → word_at 8 (placed s at bs) (p + k) ≡ word_at 8 s (p + k) = word p 40 a 8 in
+      let m : word_at 8 (placed s at bs) p ≡ word_at 8 s p = word_apart a 8 p (omega arith) (omega arith) in
+      rw (m, w 8 (omega arith), w 16 (omega arith), w 24 (omega arith), b 32 (omega arith), b 33 (omega arith))
 
   -- ## Parts of an image
 

@@ -1,12 +1,11 @@
 -- What holds of images; the proofs stand in proofs/.
-use Rattle.std.specs.Prelude.{Bool, true, List, ◌≡◌, ℕ, ◌^◌, ◌≤◌, ◌<◌, length, None, Some}
+use Rattle.std.specs.Prelude.{Bool, true, List, ◌≡◌, ℕ, ◌^◌, ◌≤◌, ◌<◌, length, None, Some, unwrap_or}
 use Rattle.model.specs.RoundTrip.{IsMoment, IsOffset}
 use Rattle.model.specs.Rules.{allowed}
 use Rattle.model.specs.Clock.{Clock, fresh}
 use Rattle.model.specs.Lists.{empty}
 use Rattle.model.specs.Timer.{Timer}
 use Rattle.model.specs.Retries.{Client, new_client}
-use Rattle.model.specs.Output.{or_zero}
 use Rattle.table.specs.Layout.{table_size, store_in}
 use Rattle.image.specs.Layout.{image_size, is_image, table_in, with_table}
 use Rattle.image.specs.Parts.{clock_in, timer_in, client_in, has_lists, fabric_of, node_of, endpoint_of, limit_of, with_clock, with_timer, with_client, new_image}
@@ -16,7 +15,7 @@ use Rattle.image.specs.Parts.{clock_in, timer_in, client_in, has_lists, fabric_o
 pub record ClockFits (c : Clock) : Type 0 where
   pub utc : IsMoment c.utc
   pub persisted : IsMoment c.persisted
-  pub anchor : IsMoment (or_zero c.anchor)
+  pub anchor : IsMoment (unwrap_or c.anchor 0)
   pub fabric : fabric_of c.trusted < 256
   pub node : IsMoment (node_of c.trusted)
   pub endpoint : endpoint_of c.trusted < 2 ^ 16
@@ -28,8 +27,8 @@ TimerFits (Some seen) = IsOffset seen.offset
 pub record ClientFits (c : Client) : Type 0 where
   pub period : IsMoment c.period
   pub retry : IsMoment c.retry
-  pub missing : IsMoment (or_zero c.missing_at)
-  pub failure : IsMoment (or_zero c.failure_at)
+  pub missing : IsMoment (unwrap_or c.missing_at 0)
+  pub failure : IsMoment (unwrap_or c.failure_at 0)
 
 -- ## What is written reads back
 

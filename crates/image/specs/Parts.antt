@@ -1,15 +1,13 @@
 -- What the parts of an image stand for, and what writing one leaves. A part is given by its place, so that a second one can stand elsewhere.
-use Rattle.std.specs.Prelude.{Bool, true, false, cond, List, [], ◌∷◌, ◌++◌, ℕ, ◌+◌, replicate, Option, None, Some, is_some}
-use Rattle.model.specs.declared.TimeGranularity.{TimeGranularity}
+use Rattle.std.specs.Prelude.{Bool, cond, List, [], ◌∷◌, ◌++◌, ℕ, ◌+◌, replicate, Option, None, Some, is_some, unwrap_or}
+use Rattle.std.specs.Int.{from_bool}
 use Rattle.model.specs.declared.TimeGranularity.TheVariants.{NoTime}
-use Rattle.model.specs.declared.TimeSource.{TimeSource}
 use Rattle.model.specs.declared.TimeSource.TheVariants as S
 use Rattle.model.specs.Numbers.{granularity_number, granularity_of, source_number, source_of}
 use Rattle.model.specs.Answers.{TrustedSource}
 use Rattle.model.specs.Bytes.{bytes, bits_of, signed}
 use Rattle.model.specs.Clock.{Clock, fresh}
 use Rattle.model.specs.Handler.{Device}
-use Rattle.model.specs.Output.{or_zero}
 use Rattle.model.specs.Timer.{Timer}
 use Rattle.model.specs.Retries.{Client, new_client}
 use Rattle.word.specs.Place.{byte_at, word_at, placed}
@@ -19,26 +17,18 @@ use Rattle.image.specs.Layout.{magic, store_place, clock_place, client_place, ti
 
 -- ## What the parts stand for
 
--- a code out of range stands for NoTime and for None
-abbrev pub or_no_time : Option TimeGranularity → TimeGranularity
-or_no_time None = NoTime
-or_no_time (Some g) = g
-
-abbrev pub or_none : Option TimeSource → TimeSource
-or_none None = S.None
-or_none (Some t) = t
-
 abbrev pub trusted_at : List ℕ → ℕ → Option TrustedSource
 trusted_at s at =
     cond (mark_at s (at + 3)) (Some (record { fabric = byte_at s (at + 4); node = word_at 8 s (at + 32); endpoint = word_at 2 s (at + 6) })) None
 
+-- a code out of range stands for NoTime and for None
 abbrev pub clock_at : List ℕ → ℕ → Clock
 clock_at s at =
     record {
       utc = word_at 8 s (at + 8);
       persisted = word_at 8 s (at + 16);
-      granularity = or_no_time (granularity_of (byte_at s at));
-      source = or_none (source_of (byte_at s (at + 1)));
+      granularity = unwrap_or (granularity_of (byte_at s at)) NoTime;
+      source = unwrap_or (source_of (byte_at s (at + 1))) S.None;
       anchor = maybe_at s (at + 2) (at + 24);
       trusted = trusted_at s at;
     }
@@ -77,10 +67,6 @@ device_in s = record { clock = clock_in s; store = cond (has_lists s) (Some (sto
 
 -- ## Bytes of the parts
 
-abbrev pub bit : Bool → ℕ
-bit true = 1
-bit false = 0
-
 -- the fabric, the node and the endpoint of a trusted source, zeros where there is none
 abbrev pub fabric_of : Option TrustedSource → ℕ
 fabric_of None = 0
@@ -97,22 +83,22 @@ endpoint_of (Some t) = t.endpoint
 -- 40 bytes
 unfoldable pub clock_bytes : Clock → List ℕ
 clock_bytes c =
-    granularity_number c.granularity ∷ source_number c.source ∷ bit (is_some c.anchor) ∷ bit (is_some c.trusted) ∷ fabric_of c.trusted ∷ 0
+    granularity_number c.granularity ∷ source_number c.source ∷ from_bool (is_some c.anchor) ∷ from_bool (is_some c.trusted) ∷ fabric_of c.trusted ∷ 0
     ∷ (bytes 2 (endpoint_of c.trusted)
-    ++ (bytes 8 c.utc ++ (bytes 8 c.persisted ++ (bytes 8 (or_zero c.anchor) ++ bytes 8 (node_of c.trusted)))))
+    ++ (bytes 8 c.utc ++ (bytes 8 c.persisted ++ (bytes 8 (unwrap_or c.anchor 0) ++ bytes 8 (node_of c.trusted)))))
 
 -- 8 bytes
 unfoldable pub timer_bytes : Timer → List ℕ
 timer_bytes None = 0 ∷ 0 ∷ 0 ∷ 0 ∷ bytes 4 0
-timer_bytes (Some seen) = 1 ∷ bit seen.active ∷ bit seen.usable ∷ 0 ∷ bytes 4 (bits_of seen.offset)
+timer_bytes (Some seen) = 1 ∷ from_bool seen.active ∷ from_bool seen.usable ∷ 0 ∷ bytes 4 (bits_of seen.offset)
 
 -- 40 bytes
 unfoldable pub client_bytes : Client → List ℕ
 client_bytes c =
     bytes 8 c.period
     ++ (bytes 8 c.retry
-    ++ (bytes 8 (or_zero c.missing_at)
-    ++ (bytes 8 (or_zero c.failure_at) ++ (bit (is_some c.missing_at) ∷ bit (is_some c.failure_at) ∷ replicate 6 0))))
+    ++ (bytes 8 (unwrap_or c.missing_at 0)
+    ++ (bytes 8 (unwrap_or c.failure_at 0) ++ (from_bool (is_some c.missing_at) ∷ from_bool (is_some c.failure_at) ∷ replicate 6 0))))
 
 -- ## A part written
 
@@ -135,7 +121,7 @@ limit_of there n = cond there n 0
 unfoldable pub new_bytes : Bool → ℕ → ℕ → ℕ → ℕ → List ℕ
 new_bytes there zones windows build period =
     bytes 4 magic
-    ++ ((bit there ∷ 0 ∷ 0 ∷ 0 ∷ [])
+    ++ ((from_bool there ∷ 0 ∷ 0 ∷ 0 ∷ [])
     ++ (clock_bytes (fresh build)
     ++ (client_bytes (new_client period)
     ++ (timer_bytes None ++ T.new_bytes (record { zone_limit = limit_of there zones; window_limit = limit_of there windows })))))

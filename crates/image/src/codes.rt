@@ -5,17 +5,7 @@
 
 pub const TAKEN: u64 = 0;
 
-pub const UNREADABLE: u64 = 1;
-
 pub const CONSTRAINT_ERROR: u64 = 2;
-
-pub const RESOURCE_EXHAUSTED: u64 = 3;
-
-pub const INVALID_COMMAND: u64 = 4;
-
-pub const COMMAND_NOT_FOUND: u64 = 5;
-
-pub const ATTRIBUTE_NOT_FOUND: u64 = 6;
 
 pub const BAD_LIMITS: u64 = 8;
 

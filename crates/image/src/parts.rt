@@ -1,352 +1,190 @@
 // The clock, the timer and the client of an image, read and written.
-ghost use Rattle.std.specs.Prelude.{◌≡◌, ◌+◌, ◌≤◌, length, is_some};
-ghost use Rattle.model.specs.Bytes.{bytes, all_bytes};
-ghost use Rattle.model.specs.Numbers.{granularity_of, source_of};
+ghost use Rattle.std.specs.Prelude.{◌≡◌, is_some};
 ghost use Rattle.rtc.specs.Meaning.{clock_of, option_source};
 ghost use Rattle.transition_timer.specs.Meaning.{timer_of};
 ghost use Rattle.time_sync_client.specs.Meaning.{client_of};
 ghost use Rattle.table.specs.Layout.{maybe_at};
-ghost use Rattle.table.specs.Layout as T;
-ghost use Rattle.word.specs.Place.{byte_at, put};
-ghost use Rattle.image.specs.Layout.{image_size, table_place};
-ghost use Rattle.image.specs.Limits.{rules_of, zones_of, windows_of};
-ghost use Rattle.image.specs.Parts.{or_no_time, or_none, trusted_at, clock_at, timer_at, client_at, clock_in, timer_in, client_in, clock_bytes, timer_bytes, client_bytes, new_bytes, with_clock, with_timer, with_client, new_image};
+ghost use Rattle.image.specs.Limits.{zones_of, windows_of};
+ghost use Rattle.image.specs.Parts.{clock_in, timer_in, client_in, with_clock, with_timer, with_client, new_image};
 
-use crate::place::{CLIENT, CLOCK, MAGIC, MAGIC_PLACE, SIZE, STORE, TABLE, TIMER, mark_at};
+use crate::place::{
+    ACTIVE, ANCHOR, CLIENT, CLIENT_SIZE, CLOCK, CLOCK_SIZE, ENDPOINT, FABRIC, FAILED, FAILURE_AT,
+    GRANULARITY, MAGIC, MAGIC_PLACE, MISSED, MISSING_AT, NODE, OFFSET, PERIOD, PERSISTED, RETRY,
+    SEEN, SET, SIZE, SOURCE, STORE, TABLE, TIMER, TIMER_SIZE, TRUSTED, USABLE, UTC, mark_at,
+};
 use model::{TimeGranularity, TimeSource};
 use rtc::{Rtc, TrustedTimeSource};
+use table::Limits;
 use time_sync_client::TimeSyncClient;
 use transition_timer::Seen;
-use word::or_zero::{i32_at, u8_at, u16_at, u64_at};
+use word::or_zero::{i32_at, put_u16, u8_at, u16_at, u64_at};
+use word::{in_bounds, put, put_i32, put_u32, put_u64};
 
-// Inside the clock, whose first byte is the granularity.
-pub const SOURCE: usize = 1;
-
-pub const SET: usize = 2;
-
-pub const TRUSTED: usize = 3;
-
-pub const FABRIC: usize = 4;
-
-pub const ENDPOINT: usize = 6;
-
-pub const UTC: usize = 8;
-
-const PERSISTED: usize = 16;
-
-pub const ANCHOR: usize = 24;
-
-pub const NODE: usize = 32;
-
-const CLOCK_SIZE: usize = 40;
-
-// Inside the client, whose first number is the period.
-const RETRY: usize = 8;
-
-const MISSING_AT: usize = 16;
-
-const FAILURE_AT: usize = 24;
-
-const MISSED: usize = 32;
-
-const FAILED: usize = 33;
-
-const CLIENT_SIZE: usize = 40;
-
-// Inside the timer, whose first byte is the mark that it has seen anything.
-const ACTIVE: usize = 1;
-
-const USABLE: usize = 2;
-
-const OFFSET: usize = 4;
-
-const TIMER_SIZE: usize = 8;
-
-// Four moments, 8 bytes each.
-const MOMENTS: usize = 32;
-
-// What is written of a trusted time source that is missing.
-const NO_SOURCE: TrustedTimeSource = TrustedTimeSource {
-    fab_idx: 0,
-    node_id: 0,
-    endpoint: 0,
-};
-
-// What is written of a timer that saw nothing.
-const NOT_SEEN: Seen = Seen {
-    offset: 0,
-    active: false,
-    usable: false,
-};
-
-// The limits that are written without a list store.
+// Without a list store the table is written with limits that no store can have.
 const NO_LISTS: Limits = Limits {
     zones: 0,
     windows: 0,
 };
 
-// ## Read: any place up to the end of an image
+// ## Read
 
 // The granularity; a code out of range stands for NoTime.
-fn granularity_at(s: &[u8], at: usize) -> TimeGranularity
-    ensures { result ≡ or_no_time (granularity_of (byte_at s.now at)) }
+fn granularity_in(image: &[u8]) -> TimeGranularity
+    ensures { result ≡ (clock_in image.now).granularity }
 {
-    TimeGranularity::try_from(u8_at(s, at)).unwrap_or(TimeGranularity::NoTime)
+    TimeGranularity::try_from(u8_at(image, GRANULARITY)).unwrap_or(TimeGranularity::NoTime)
 }
 
 // The time source; a code out of range stands for None.
-fn source_at(s: &[u8], at: usize) -> TimeSource
-    ensures { result ≡ or_none (source_of (byte_at s.now at)) }
+fn source_in(image: &[u8]) -> TimeSource
+    ensures { result ≡ (clock_in image.now).source }
 {
-    TimeSource::try_from(u8_at(s, at)).unwrap_or(TimeSource::None)
+    TimeSource::try_from(u8_at(image, SOURCE)).unwrap_or(TimeSource::None)
 }
 
-// The number of 8 bytes at a place, where its mark is set.
-fn maybe_at(s: &[u8], mark: usize, at: usize) -> Option<u64>
-    ensures { result ≡ maybe_at s.now mark at }
+// The moment at a place, where its mark is set.
+fn moment_at(image: &[u8], mark: usize, at: usize) -> Option<u64>
+    ensures { result ≡ maybe_at image.now mark at }
 {
-    mark_at(s, mark).then(|| u64_at(s, at))
+    mark_at(image, mark).then(|| u64_at(image, at))
 }
 
-// The trusted time source of the clock at a place.
-fn trusted_at(s: &[u8], at: usize) -> Option<TrustedTimeSource>
-    requires { at ≤ image_size }
-    ensures { option_source result ≡ trusted_at s.now at }
+// The trusted time source.
+fn trusted_in(image: &[u8]) -> Option<TrustedTimeSource>
+    ensures { option_source result ≡ (clock_in image.now).trusted }
 {
-    mark_at(s, at + TRUSTED).then(|| TrustedTimeSource {
-        fab_idx: u8_at(s, at + FABRIC),
-        node_id: u64_at(s, at + NODE),
-        endpoint: u16_at(s, at + ENDPOINT),
+    mark_at(image, TRUSTED).then(|| TrustedTimeSource {
+        fab_idx: u8_at(image, FABRIC),
+        node_id: u64_at(image, NODE),
+        endpoint: u16_at(image, ENDPOINT),
     })
-}
-
-// The clock at a place.
-fn rtc_at(s: &[u8], at: usize) -> Rtc
-    requires { at ≤ image_size }
-    ensures { clock_of result ≡ clock_at s.now at }
-{
-    Rtc {
-        utc_us: u64_at(s, at + UTC),
-        utc_us_persisted: u64_at(s, at + PERSISTED),
-        granularity: granularity_at(s, at),
-        source: source_at(s, at + SOURCE),
-        anchor: maybe_at(s, at + SET, at + ANCHOR),
-        trusted_time_source: trusted_at(s, at),
-    }
-}
-
-// What the timer at a place last saw.
-fn seen_at(s: &[u8], at: usize) -> Option<Seen>
-    requires { at ≤ image_size }
-    ensures { timer_of result ≡ timer_at s.now at }
-{
-    mark_at(s, at).then(|| Seen {
-        offset: i32_at(s, at + OFFSET),
-        active: mark_at(s, at + ACTIVE),
-        usable: mark_at(s, at + USABLE),
-    })
-}
-
-// The client at a place.
-fn client_at(s: &[u8], at: usize) -> TimeSyncClient
-    requires { at ≤ image_size }
-    ensures { client_of result ≡ client_at s.now at }
-{
-    TimeSyncClient {
-        period: u64_at(s, at),
-        retry: u64_at(s, at + RETRY),
-        missing_source_at: maybe_at(s, at + MISSED, at + MISSING_AT),
-        time_failure_at: maybe_at(s, at + FAILED, at + FAILURE_AT),
-    }
 }
 
 // The clock.
-pub fn rtc_in(s: &[u8]) -> Rtc
-    ensures { clock_of result ≡ clock_in s.now }
+pub fn rtc_in(image: &[u8]) -> Rtc
+    ensures { clock_of result ≡ clock_in image.now }
 {
-    rtc_at(s, CLOCK)
+    Rtc {
+        utc_us: u64_at(image, UTC),
+        utc_us_persisted: u64_at(image, PERSISTED),
+        granularity: granularity_in(image),
+        source: source_in(image),
+        anchor: moment_at(image, SET, ANCHOR),
+        trusted_time_source: trusted_in(image),
+    }
 }
 
 // What the timer last saw.
-pub fn seen_in(s: &[u8]) -> Option<Seen>
-    ensures { timer_of result ≡ timer_in s.now }
+pub fn seen_in(image: &[u8]) -> Option<Seen>
+    ensures { timer_of result ≡ timer_in image.now }
 {
-    seen_at(s, TIMER)
+    mark_at(image, SEEN).then(|| Seen {
+        offset: i32_at(image, OFFSET),
+        active: mark_at(image, ACTIVE),
+        usable: mark_at(image, USABLE),
+    })
 }
 
 // The client.
-pub fn client_in(s: &[u8]) -> TimeSyncClient
-    ensures { client_of result ≡ client_in s.now }
+pub fn client_in(image: &[u8]) -> TimeSyncClient
+    ensures { client_of result ≡ client_in image.now }
 {
-    client_at(s, CLIENT)
+    TimeSyncClient {
+        period: u64_at(image, PERIOD),
+        retry: u64_at(image, RETRY),
+        missing_source_at: moment_at(image, MISSED, MISSING_AT),
+        time_failure_at: moment_at(image, FAILED, FAILURE_AT),
+    }
 }
 
-// ## Written
+// ## Written: on a slice that is too short for the part nothing is
 
-// Each part has a writer of its own: one over all three would take the place, the length and the writer as parameters, and be no shorter.
-
-// Writes bytes at a place.
-fn put_bytes<const N: usize>(s: &mut [u8], at: usize, values: [u8; N])
-    requires { at + N ≤ length s.old }
-    ensures { s.new ≡ put s.old at values.entry }
+// Writes the clock; without a trusted time source there are zeros.
+#[tactic(auto, using(crate::proofs::Written::writes), unfolding(crate::specs::Parts::with_clock, crate::specs::Parts::clock_bytes))]
+pub fn put_rtc(image: &mut [u8], rtc: Rtc)
+    ensures { image.new ≡ with_clock image.old (clock_of rtc) }
 {
-    s[at..at + N].copy_from_slice(&values);
-}
-
-// Writes four moments at a place, one after another.
-fn put_moments(s: &mut [u8], at: usize, moments: [u64; 4])
-    requires { at + 32 ≤ length s.old }
-    ensures { s.new ≡ put s.old at (all_bytes (λ m. bytes 8 m) moments) }
-{
-    word::put_u64s(&mut s[at..at + MOMENTS], &moments, moments.len());
-}
-
-// Writes the clock at a place; without a trusted time source there are zeros.
-fn write_clock(s: &mut [u8], at: usize, rtc: Rtc)
-    requires { at + 40 ≤ length s.old }
-    ensures { s.new ≡ put s.old at (clock_bytes (clock_of rtc)) }
-{
+    if !in_bounds(image, CLOCK, CLOCK_SIZE) {
+        return;
+    }
     let trusted = rtc.trusted_time_source;
-    let t = trusted.unwrap_or(NO_SOURCE);
-    put_bytes(
-        s,
-        at,
-        [
-            u8::from(rtc.granularity),
-            u8::from(rtc.source),
-            u8::from(rtc.anchor.is_some()),
-            u8::from(trusted.is_some()),
-            t.fab_idx,
-            0,
-        ],
-    );
-    word::or_zero::put_u16(s, at + ENDPOINT, t.endpoint);
-    put_moments(
-        s,
-        at + UTC,
-        [
-            rtc.utc_us,
-            rtc.utc_us_persisted,
-            rtc.anchor.unwrap_or(0),
-            t.node_id,
-        ],
-    );
+    let source = trusted.unwrap_or_default();
+    let codes = [
+        u8::from(rtc.granularity),
+        u8::from(rtc.source),
+        u8::from(rtc.anchor.is_some()),
+        u8::from(trusted.is_some()),
+        source.fab_idx,
+        0,
+    ];
+    put(image, CLOCK, &codes);
+    put_u16(image, ENDPOINT, source.endpoint);
+    put_u64(image, UTC, rtc.utc_us);
+    put_u64(image, PERSISTED, rtc.utc_us_persisted);
+    put_u64(image, ANCHOR, rtc.anchor.unwrap_or(0));
+    put_u64(image, NODE, source.node_id);
 }
 
-// Writes the clock; on a slice that is too short nothing is written.
-pub fn put_rtc(s: &mut [u8], rtc: Rtc)
-    ensures { s.new ≡ with_clock s.old (clock_of rtc) }
+// Writes what the timer saw; one that saw nothing is zeros.
+#[tactic(auto, using(crate::proofs::Written::writes), unfolding(crate::specs::Parts::with_timer))]
+pub fn put_seen(image: &mut [u8], seen: Option<Seen>)
+    ensures { image.new ≡ with_timer image.old (timer_of seen) }
 {
-    if word::in_bounds(s, CLOCK, CLOCK_SIZE) {
-        write_clock(s, CLOCK, rtc);
+    if !in_bounds(image, TIMER, TIMER_SIZE) {
+        return;
     }
+    let last = seen.unwrap_or_default();
+    let marks = [
+        u8::from(seen.is_some()),
+        u8::from(last.active),
+        u8::from(last.usable),
+        0,
+    ];
+    put(image, SEEN, &marks);
+    put_i32(image, OFFSET, last.offset);
 }
 
-// Writes the timer at a place; one that saw nothing is zeros.
-fn write_timer(s: &mut [u8], at: usize, seen: Option<Seen>)
-    requires { at + 8 ≤ length s.old }
-    ensures { s.new ≡ put s.old at (timer_bytes (timer_of seen)) }
+// Writes the client.
+#[tactic(auto, using(crate::proofs::Written::writes), unfolding(crate::specs::Parts::with_client, crate::specs::Parts::client_bytes))]
+pub fn put_client(image: &mut [u8], client: TimeSyncClient)
+    ensures { image.new ≡ with_client image.old (client_of client) }
 {
-    let v = seen.unwrap_or(NOT_SEEN);
-    put_bytes(
-        s,
-        at,
-        [
-            u8::from(seen.is_some()),
-            u8::from(v.active),
-            u8::from(v.usable),
-            0,
-        ],
-    );
-    word::put_i32(s, at + OFFSET, v.offset);
-}
-
-// Writes what the timer saw; on a slice that is too short nothing is written.
-pub fn put_seen(s: &mut [u8], seen: Option<Seen>)
-    ensures { s.new ≡ with_timer s.old (timer_of seen) }
-{
-    if word::in_bounds(s, TIMER, TIMER_SIZE) {
-        write_timer(s, TIMER, seen);
+    if !in_bounds(image, CLIENT, CLIENT_SIZE) {
+        return;
     }
-}
-
-// Writes the client at a place.
-fn write_client(s: &mut [u8], at: usize, client: TimeSyncClient)
-    requires { at + 40 ≤ length s.old }
-    ensures { s.new ≡ put s.old at (client_bytes (client_of client)) }
-{
     let missing = client.missing_source_at;
     let failure = client.time_failure_at;
-    put_moments(
-        s,
-        at,
-        [
-            client.period,
-            client.retry,
-            missing.unwrap_or(0),
-            failure.unwrap_or(0),
-        ],
-    );
-    put_bytes(
-        s,
-        at + MISSED,
-        [
-            u8::from(missing.is_some()),
-            u8::from(failure.is_some()),
-            0,
-            0,
-            0,
-            0,
-            0,
-            0,
-        ],
-    );
-}
-
-// Writes the client; on a slice that is too short nothing is written.
-pub fn put_client(s: &mut [u8], client: TimeSyncClient)
-    ensures { s.new ≡ with_client s.old (client_of client) }
-{
-    if word::in_bounds(s, CLIENT, CLIENT_SIZE) {
-        write_client(s, CLIENT, client);
-    }
+    put_u64(image, PERIOD, client.period);
+    put_u64(image, RETRY, client.retry);
+    put_u64(image, MISSING_AT, missing.unwrap_or(0));
+    put_u64(image, FAILURE_AT, failure.unwrap_or(0));
+    let marks = [
+        u8::from(missing.is_some()),
+        u8::from(failure.is_some()),
+        0,
+        0,
+        0,
+        0,
+        0,
+        0,
+    ];
+    put(image, MISSED, &marks);
 }
 
 // ## A new image
 
-// The limits of a list store.
-#[derive(Clone, Copy, PartialEq, Eq)]
-pub struct Limits {
-    pub zones: u8,
-    pub windows: u8,
-}
-
-// Writes an empty table with these limits.
-fn put_table(s: &mut [u8], limits: Limits)
-    requires { image_size ≤ length s.old }
-    ensures { s.new ≡ put s.old table_place (T.new_bytes (rules_of limits)) }
-{
-    table::layout::put_new(&mut s[TABLE..SIZE], limits.zones, limits.windows);
-}
-
-// Writes the bytes of a new image.
-fn write_new(s: &mut [u8], limits: Option<Limits>, build: u64, period: u64)
-    requires { image_size ≤ length s.old }
-    ensures { s.new ≡ put s.old 0 (new_bytes (is_some limits) (zones_of limits) (windows_of limits) build period) }
-{
-    word::put_u32(s, MAGIC_PLACE, MAGIC);
-    put_bytes(s, STORE, [u8::from(limits.is_some()), 0, 0, 0]);
-    write_clock(s, CLOCK, Rtc::new(build));
-    write_client(s, CLIENT, TimeSyncClient::new(period));
-    write_timer(s, TIMER, None);
-    put_table(s, limits.unwrap_or(NO_LISTS));
-}
-
 // Writes a new image over the front of the slice, where it fits: with a list store of these limits, or with none.
-pub fn put_new(s: &mut [u8], limits: Option<Limits>, build: u64, period: u64)
-    ensures { s.new ≡ new_image s.old (is_some limits) (zones_of limits) (windows_of limits) build period }
+#[tactic(auto, using(word::proofs::Frame::placed_else, crate::proofs::Written::length_new), unfolding(crate::specs::Parts::new_image))]
+pub fn put_new(image: &mut [u8], limits: Option<Limits>, build: u64, period: u64)
+    ensures { image.new ≡ new_image image.old (is_some limits) (zones_of limits) (windows_of limits) build period }
 {
-    if word::in_bounds(s, MAGIC_PLACE, SIZE) {
-        write_new(s, limits, build, period);
+    if image.len() < SIZE {
+        return;
     }
+    put_u32(image, MAGIC_PLACE, MAGIC);
+    put(image, STORE, &[u8::from(limits.is_some()), 0, 0, 0]);
+    put_rtc(image, Rtc::new(build));
+    put_client(image, TimeSyncClient::new(period));
+    put_seen(image, None);
+    table::layout::put_new(&mut image[TABLE..SIZE], limits.unwrap_or(NO_LISTS));
 }

@@ -1,20 +1,13 @@
 -- `image::parts::put_new` meets its contract.
-use mathlib.Core.Path.{◌∙◌}
-use Rattle.image.specs.Layout.{image_size, magic_place}
+use Rattle.std.proofs.Common.{arith}
+use Rattle.table.specs.Limits.{rules_of}
 use Rattle.image.specs.Parts.{new_image}
-use Rattle.image.specs.Limits.{zones_of, windows_of}
-use Rattle.std.specs.Prelude.{is_some}
-use Rattle.image.proofs.Written.{length_new, there, missing}
+use Rattle.image.proofs.Written.{table_is, new_is}
 use Rattle.image.proofs.parts.put_new.Goals as goal
 
-pub returns-then-in_bounds : goal.returns-then-in_bounds
+pub returns : goal.returns
 unfolding new_image
-returns-then-in_bounds c =
+returns c =
     let a = c.args in
-    c.write_new.ensures ∙ there a.s.now magic_place image_size _ (length_new (is_some a.limits) (zones_of a.limits) (windows_of a.limits) a.build a.period) c.in_bounds.ensures c.if-in_bounds.true
-
-pub returns-else-in_bounds : goal.returns-else-in_bounds
-unfolding new_image
-returns-else-in_bounds c =
-    let a = c.args in
-    missing a.s.now magic_place image_size _ (length_new (is_some a.limits) (zones_of a.limits) (windows_of a.limits) a.build a.period) c.in_bounds.ensures c.if-in_bounds.false
+    rw (c.put_new.ensures, table_is c.put_seen.new.image (rules_of c.unwrap_or.result) (omega arith), c.unwrap_or.ensures, c.put_seen.ensures, c.put_client.ensures, c.new-2.ensures, c.put_rtc.ensures, c.new.ensures, c.put.ensures.1, c.from.ensures, c.is_some.ensures, c.put_u32.ensures.1)
+    (new_is a.image.now a.limits a.build a.period (omega arith))
