@@ -2,7 +2,7 @@
 ghost use Rattle.std.specs.Prelude.{◌≡◌};
 ghost use Rattle.image.specs.Asked.{given};
 ghost use Rattle.commands.specs.Calls.{set_utc_time_command, set_trusted_time_source, named_by, rtc_set, rtc_set_persist, source_by, load_clock, reset_clock};
-ghost use Rattle.commands.specs.Taken.{setting_read};
+ghost use Rattle.commands.specs.Taken.{setting_read, Sets};
 
 use crate::codes::{CLOCK_RESET, UTC_REPORTED};
 use crate::{arguments, codes};
@@ -10,6 +10,7 @@ use image::asked::given;
 use image::parts::{put_rtc, rtc_in};
 use image::place::{has_lists, is_image};
 use model::{Refusal, TAKEN, TimeGranularity, TimeSource};
+use rtc::Rtc;
 
 // ## Commands
 
@@ -67,21 +68,31 @@ pub fn set_trusted_time_source(
 
 // ## The clock's own settings
 
-// The granularity and the source of a setting of an image, where their numbers name them.
-fn setting_read(
-    image: &[u8],
+// Sets the clock of an image by a call on it, which answers the clock after it, whether something changed, and what is returned.
+fn set_by<F: FnOnce(Rtc, TimeGranularity, TimeSource) -> (Rtc, bool, u64)>(
+    image: &mut [u8],
     granularity: u8,
     source: u8,
-) -> Result<(TimeGranularity, TimeSource), Refusal>
-    ensures { result ≡ setting_read image.now granularity source }
+    changed: &mut u64,
+    set: F,
+) -> u64
+    requires { F.IsAlwaysCallable set }
+    ensures { Sets (λ rtc g t r. F.post set rtc g t r) image.old (setting_read image.old granularity source) changed.old result image.new changed.new }
 {
     if !is_image(image) {
-        return Err(Refusal::BadLimits);
+        return codes::refusal(Refusal::BadLimits);
     }
-    TimeGranularity::try_from(granularity)
-        .ok()
-        .zip(TimeSource::try_from(source).ok())
-        .ok_or(Refusal::Unreadable)
+    let numbers = (
+        TimeGranularity::try_from(granularity),
+        TimeSource::try_from(source),
+    );
+    let (Ok(granularity), Ok(source)) = numbers else {
+        return codes::refusal(Refusal::Unreadable);
+    };
+    let (rtc, anew, number) = set(rtc_in(image), granularity, source);
+    put_rtc(image, rtc);
+    *changed = u64::from(anew);
+    number
 }
 
 // Sets the UTC time with a source of any kind; `changed` is whether something changed.
@@ -96,18 +107,19 @@ pub fn rtc_set_utc_time(
 ) -> u64
     ensures { let set = rtc_set image.old utc_us granularity source tick changed.old in (result ≡ set.returned) × (image.new ≡ set.image) × (changed.new ≡ set.changed) }
 {
-    let (granularity, source) = match setting_read(image, granularity, source) {
-        Ok(read) => read,
-        Err(cause) => return codes::refusal(cause),
-    };
-    let set = rtc_in(image).set_utc_time(utc_us, granularity, source, tick);
-    put_rtc(image, set.rtc);
-    *changed = u64::from(set.changed);
-    UTC_REPORTED
+    set_by(
+        image,
+        granularity,
+        source,
+        changed,
+        |rtc, granularity, source| {
+            let set = rtc.set_utc_time(utc_us, granularity, source, tick);
+            (set.rtc, set.changed, UTC_REPORTED)
+        },
+    )
 }
 
-// The same, and has the moment stored that is a day or more from the persisted one. The two stay apart: one function over both would take the
-// clock's call and the codes of its outcome as closures, and be no shorter.
+// The same, and has the moment stored that is a day or more from the persisted one.
 #[tactic(auto, unfolding(crate::specs::Calls::clock_set_persist))]
 pub fn rtc_set_utc_time_persist(
     image: &mut [u8],
@@ -119,14 +131,16 @@ pub fn rtc_set_utc_time_persist(
 ) -> u64
     ensures { let set = rtc_set_persist image.old utc_us granularity source tick changed.old in (result ≡ set.returned) × (image.new ≡ set.image) × (changed.new ≡ set.changed) }
 {
-    let (granularity, source) = match setting_read(image, granularity, source) {
-        Ok(read) => read,
-        Err(cause) => return codes::refusal(cause),
-    };
-    let set = rtc_in(image).set_utc_time_persist(utc_us, granularity, source, tick);
-    put_rtc(image, set.rtc);
-    *changed = u64::from(set.changed);
-    codes::setting(set.stored)
+    set_by(
+        image,
+        granularity,
+        source,
+        changed,
+        |rtc, granularity, source| {
+            let set = rtc.set_utc_time_persist(utc_us, granularity, source, tick);
+            (set.rtc, set.changed, codes::setting(set.stored))
+        },
+    )
 }
 
 // ## Load and reset
