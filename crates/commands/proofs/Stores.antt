@@ -1,69 +1,68 @@
--- What a command on the lists of a table returns, leaves and stores, by what the table says of it.
-use Rattle.std.proofs.Common.{Ok, Err, Bool, true, false, List, [], ◌≡◌, refl, ap, ◌∙◌, ℕ, ◌≤◌, arith, length}
+-- What a command on the lists answers, leaves and stores, by what the image and its table say of the request.
+use Rattle.std.proofs.Common.{Bool, true, false, cond, List, [], ◌≡◌, ℕ, Option, None, Some, Ok, Err, ok_or, IsErrAnd, length, refl, sym}
+use Rattle.std.specs.Prelude.{Result as StdResult}
+use borrow.Rule.Slice.PartMut.{put_mid}
 use Rattle.model.specs.declared.Refusal.{Refusal}
+use Rattle.model.specs.declared.Refusal.TheVariants.{NoSpace}
 use Rattle.model.specs.Basics.{when}
-use Rattle.model.specs.Numbers.{refusal_number}
-use Rattle.model.specs.Bytes.{number, record_bytes}
-use Rattle.model.specs.Answers.{wake_timer}
-use Rattle.model.specs.Codes.{returned}
-use Rattle.model.specs.Output.{copied_over, stores}
-use Rattle.model.specs.RoundTrip.{AreBytes}
-use Rattle.table.specs.Layout.{table_size, lists_in}
-use Rattle.table.specs.Left.{empties, time_zone_said, time_zone_left, dst_offset_said, dst_offset_left}
-use Rattle.table.proofs.Follows.{lengths_stay}
-use Rattle.commands.specs.Taken.{zones_taken, windows_taken}
-use Rattle.commands.proofs.Told.{Stored, none_stored, one_stored}
-use Rattle.commands.proofs.Verdicts.{zones_told, zones_told_lem, zones_lists, zones_roomy, windows_told, windows_told_lem, windows_lists, windows_roomy}
+use Rattle.model.specs.Answers.{Effect, wake_timer, Result}
+use Rattle.model.specs.Output.{too_short, copied_over, stores}
+use Rattle.model.specs.Store as M
+use Rattle.model.specs.Store.{Store}
+use Rattle.model.specs.Handler.{Device, of_store}
+use Rattle.table.specs.Layout.{table_size, store_in}
+use Rattle.image.specs.Layout.{table_place, table_in}
+use Rattle.image.specs.Parts.{device_in}
+use Rattle.commands.specs.Calls.{table_left}
+use Rattle.commands.specs.Taken.{check_lists, AnswersBy, record_left}
+use Rattle.commands.proofs.Told.{roomy_in, checked, commanded, not_taken_up, not_taken_left, taken_up, table_put}
+use Rattle.commands.proofs.Verdicts.{has_room, Tells}
 
--- the table is whole, and the record of its lists has room
-abbrev pub Roomy : List ℕ → ℕ → Type 0
-Roomy u room = (table_size ≤ length u) × (length (record_bytes (lists_in u)) ≤ room)
+-- what the record of a table leaves of a slice, where it has room
+module _ (t out : List ℕ) where
+  abbrev short : Bool
+  short = too_short (length out) (M.record_of (store_in t))
+
+  abbrev pub Put : Option ℕ → List ℕ → Type 0
+  Put n o = (n ≡ cond short None (Some (length (M.record_of (store_in t))))) × (o ≡ cond short out (copied_over (M.record_of (store_in t)) out))
 
 -- a wake stores nothing
-woken : (b : Bool) → stores (when b wake_timer) ≡ false
+pub woken : (b : Bool) → stores (when b wake_timer) ≡ false
 unfolding stores
 woken true = refl
 woken false = refl
 
-module _ (t b out : List ℕ) (used : ℕ) (u : List ℕ) where
-  module _ (g : u ≡ time_zone_left t b (length out)) where
-    pub zones_refused : (cause : Refusal) → time_zone_said t b (length out) ≡ Err cause → (n : ℕ) → n ≡ returned (refusal_number cause) []
-        → Stored n u out used (zones_taken t b out used)
-    unfolding stores
-    zones_refused cause e n f =
-        none_stored (time_zone_left t b (length out)) out used (zones_told t b (length out) (Err cause)) (zones_told_lem t b (length out) ∙ ap (zones_told t b (length out)) e) n f u g refl
+module _ {A : Type 0} (s left out : List ℕ) (call : Store → Result Store A) (taken : List Effect) (turned_down : Refusal → List Effect) where
+  abbrev r : Result Device A
+  r = commanded s call (length out)
 
-    module _ (h : table_size ≤ length t) (c : AreBytes b) (e : time_zone_said t b (length out) ≡ Ok tt) where
-      pub zones_fit : Roomy u (length out)
-      zones_fit =
-          let k = zones_roomy t b (length out) h c e in
-          let l = (lengths_stay t b (length out)).time_zone in
-          rw g (omega arith, k)
+  abbrev pub Answered : StdResult ℕ Refusal → List ℕ → List ℕ → Type 0
+  Answered said t o = AnswersBy taken turned_down r said × (t ≡ table_left s left) × (o ≡ record_left r out)
 
-      pub zones_stored : (o : List ℕ) → o ≡ copied_over (record_bytes (lists_in u)) out → (m : ℕ) → m ≡ length (record_bytes (lists_in u))
-          → Stored 0x1615403000 u o m (zones_taken t b out used)
-      unfolding stores returned number
-      zones_stored o p m q =
-          one_stored (time_zone_left t b (length out)) out used (zones_told t b (length out) (Ok tt)) (zones_told_lem t b (length out) ∙ ap (zones_told t b (length out)) e)
-          0x1615403000 refl u g refl (lists_in u) (ap lists_in g ∙ zones_lists t b (length out) h c e) o p m q
+  -- before the request is read
+  pub not_taken : (said : StdResult ℕ Refusal) (cause : Refusal) → IsErrAnd said (λ x. x ≡ cause) → Err cause ≡ check_lists s → [] ≡ turned_down cause → Answered said s out
+  unfolding stores
+  not_taken (Ok n) cause f e k = elim f [ ]
+  not_taken (Err x) cause f e k = rw (f, not_taken_up s call (length out) cause e) ((refl, k), sym (not_taken_left s left cause e), refl)
 
-  module _ (g : u ≡ dst_offset_left t b (length out)) (h : table_size ≤ length t) (c : AreBytes b) where
-    pub windows_refused : (cause : Refusal) → dst_offset_said t b (length out) ≡ Err cause → (n : ℕ) → n ≡ returned (refusal_number cause) (when (empties cause) wake_timer)
-        → Stored n u out used (windows_taken t b out used)
-    windows_refused cause e n f =
-        none_stored (dst_offset_left t b (length out)) out used (windows_told t b (length out) (Err cause))
-        (windows_told_lem t b (length out) h c ∙ ap (windows_told t b (length out)) e) n f u g (woken (empties cause))
+module _ {A : Type 0} (s out : List ℕ) {left : List ℕ} {call : Store → Result Store A} {taken : List Effect} {turned_down : Refusal → List Effect} {v : StdResult (Unit {0}) Refusal}
+    (e : Ok tt ≡ check_lists s) (w : Tells (table_in s) (length out) call taken turned_down v left) {u : List ℕ} (g : u ≡ left) where
+  by_store : commanded s call (length out) ≡ of_store (device_in s) (roomy_in (length out) (store_in (table_in s)) (call (store_in (table_in s))))
+  by_store = let i = checked s e in taken_up s call (length out) i.0 i.1
 
-    module _ (e : dst_offset_said t b (length out) ≡ Ok tt) where
-      pub windows_fit : Roomy u (length out)
-      windows_fit =
-          let k = windows_roomy t b (length out) h c e in
-          let l = (lengths_stay t b (length out)).dst_offset in
-          rw g (omega arith, k)
+  put_left : put_mid table_place table_size s u ≡ table_left s left
+  put_left = let i = checked s e in rw g (table_put s left i.0 i.1 w.long)
 
-      pub windows_stored : (o : List ℕ) → o ≡ copied_over (record_bytes (lists_in u)) out → (m : ℕ) → m ≡ length (record_bytes (lists_in u))
-          → Stored 0x16403000 u o m (windows_taken t b out used)
-      unfolding stores returned number
-      windows_stored o p m q =
-          one_stored (dst_offset_left t b (length out)) out used (windows_told t b (length out) (Ok tt)) (windows_told_lem t b (length out) h c ∙ ap (windows_told t b (length out)) e)
-          0x16403000 refl u g refl (lists_in u) (ap lists_in g ∙ windows_lists t b (length out) h c e) o p m q
+  -- a request that the table turns down
+  pub turned_down_lem : (cause : Refusal) → v ≡ Err cause → stores (turned_down cause) ≡ false → (said : StdResult ℕ Refusal) → IsErrAnd said (λ x. x ≡ cause)
+      → Answered s left out call taken turned_down said (put_mid table_place table_size s u) out
+  turned_down_lem cause f k (Ok n) m = elim m [ ]
+  turned_down_lem cause f k (Err x) m = let q = w.refused cause f in rw (m, by_store, q.answer, q.asks, k) ((refl, refl), put_left, refl)
+
+  -- a request that is taken
+  pub taken_lem : v ≡ Ok tt → stores taken ≡ true → (n : Option ℕ) (o : List ℕ) → Put u out n o → (said : StdResult ℕ Refusal) → said ≡ ok_or n NoSpace
+      → Answered s left out call taken turned_down said (put_mid table_place table_size s u) o
+  taken_lem f k n o p said m =
+      let q = w.accepted f in
+      let room = rw (q.asks, k) at (has_room (length out) (store_in (table_in s)) (call (store_in (table_in s))) q.value q.answer) in
+      rw (put_left, m, p.0, p.1, g, w.follows, room, by_store, q.answer, q.asks, k) ((refl, refl, refl), refl, refl)

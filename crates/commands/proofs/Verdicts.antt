@@ -1,36 +1,28 @@
 -- What a table says of a request is what the model's list store answers.
-use Rattle.std.specs.Prelude.{Option, None, Some, Ok, Err}
+use Rattle.std.proofs.Common.{Bool, true, false, cond, List, [], ◌∷◌, ◌≡◌, ℕ, ◌≤◌, Option, None, Some, Ok, Err, length, refl, sym, ap, ◌∙◌, arith, le-ltb}
 use Rattle.std.specs.Prelude.{Result as StdResult}
-use mathlib.Core.Bool.{Bool, true, false, cond}
-use mathlib.Core.List.{List, [], ◌∷◌}
-use mathlib.Core.Path.{◌≡◌, refl, sym, ap, ◌∙◌}
-use Prim.Native.Nat.{ℕ, ◌≤◌}
-use native.Mathlib.Omega.{arith}
-use borrow.Author.Tests.{le-ltb, ltb-false}
-use lib.ListN.{length}
 use Rattle.model.specs.declared.Refusal.{Refusal}
-use Rattle.model.specs.declared.Refusal.TheVariants as F
 use Rattle.model.specs.Basics.{when}
-use Rattle.model.specs.Lists.{Window, Lists}
+use Rattle.model.specs.Lists.{Window}
 use Rattle.model.specs.Bytes.{record_bytes, read_windows}
-use Rattle.model.specs.Answers.{refused, answers, done, report, wake_timer, store_record, TimeZone, DSTOffset, Result, unchanged}
+use Rattle.model.specs.Answers.{Effect, refused, answers, done, report, wake_timer, store_record, TimeZone, DSTOffset, Result, unchanged}
 use Rattle.model.specs.Rules as R
 use Rattle.model.specs.Rules.{test_windows}
-use Rattle.model.specs.History.{Call, SetTimeZone, SetDSTOffset, Load, verdict, windows_verdict, if_accepted, after}
+use Rattle.model.specs.History.{SetTimeZone, SetDSTOffset, Load, verdict, windows_verdict, if_accepted, after}
 use Rattle.model.specs.Output as O
 use Rattle.model.specs.Output.{too_short, stores, lacks_room, no_space, store_after_sized}
 use Rattle.model.specs.Store as M
 use Rattle.model.specs.Store.{Store, changed_by, next_generation}
 use Rattle.model.specs.RoundTrip.{AreBytes}
 use Rattle.model.proofs.Facts.{by_test}
-use Rattle.rules.specs.Verdicts.{verdict_of, zones_tested, windows_tested, record_tested}
+use Rattle.rules.specs.Verdicts.{verdict_of, record_tested}
 use Rattle.rules.proofs.Agree.{zones_are_lem, windows_are_lem, is_accepted, is_turned_down}
-use Rattle.table.specs.Layout.{table_size, rules_in, lists_in, generation_in, store_in}
+use Rattle.table.specs.Layout.{table_size, rules_in, generation_in, store_in}
 use Rattle.table.specs.Left.{with_room, time_zone_said, time_zone_left, empties, dst_offset_said, dst_offset_left, load_said}
 use Rattle.table.proofs.Requests.{windows_stay}
-use Rattle.table.proofs.Room.{zones_short, windows_short, zones_said, windows_said}
-use Rattle.table.proofs.Follows.{time_zone_follows, dst_offset_follows}
-use Rattle.commands.specs.Taken.{stored_by, zones_by, windows_by, load_by}
+use Rattle.table.proofs.Room.{zones_said, windows_said}
+use Rattle.table.proofs.Follows.{time_zone_follows, dst_offset_follows, lengths_stay}
+use Rattle.commands.proofs.Told.{stored_by, roomy_in}
 
 -- ## The room for the record that a call stores
 
@@ -41,56 +33,64 @@ module _ (s : Store) (b : List ℕ) (room : ℕ) where
   zones_short_by R.accepted = refl
   zones_short_by (R.turned_down cause) = le-ltb room 0 (omega arith)
 
-  pub zones_short_lem : too_short room (stored_by (M.set_time_zone s b)) ≡ no_space s.rules s.lists (record { call = SetTimeZone b; room = room })
+  zones_short_lem : too_short room (stored_by (M.set_time_zone s b)) ≡ no_space s.rules s.lists (record { call = SetTimeZone b; room = room })
   unfolding M.set_time_zone no_space O.stored_by
   zones_short_lem = zones_short_by (verdict s.rules (SetTimeZone b))
 
-  windows_short_by : (v : R.Verdict)
-      → too_short room (stored_by (M.windows_tested s b v)) ≡ lacks_room room (if_accepted v (Some (record_bytes (after s.rules s.lists (SetDSTOffset b)))) None)
-  unfolding stores M.record_of
-  windows_short_by R.accepted = refl
-  windows_short_by (R.turned_down cause) = le-ltb room 0 (omega arith)
-
-  windows_short_read : (o : Option (List Window))
+  windows_short_by : (o : Option (List Window))
       → too_short room (stored_by (M.windows_read s b o))
       ≡ lacks_room room (if_accepted (windows_verdict s.rules o) (Some (record_bytes (after s.rules s.lists (SetDSTOffset b)))) None)
-  unfolding stores
-  windows_short_read None = le-ltb room 0 (omega arith)
-  windows_short_read (Some ws) = windows_short_by (test_windows s.rules ws)
+  unfolding stores M.record_of
+  windows_short_by None = le-ltb room 0 (omega arith)
+  windows_short_by (Some ws) = tested (test_windows s.rules ws)
+    where
+      tested : (v : R.Verdict)
+          → too_short room (stored_by (M.windows_tested s b v)) ≡ lacks_room room (if_accepted v (Some (record_bytes (after s.rules s.lists (SetDSTOffset b)))) None)
+      tested R.accepted = refl
+      tested (R.turned_down cause) = le-ltb room 0 (omega arith)
 
-  pub windows_short_lem : too_short room (stored_by (M.set_dst_offset s b)) ≡ no_space s.rules s.lists (record { call = SetDSTOffset b; room = room })
+  windows_short_lem : too_short room (stored_by (M.set_dst_offset s b)) ≡ no_space s.rules s.lists (record { call = SetDSTOffset b; room = room })
   unfolding M.set_dst_offset no_space O.stored_by verdict
-  windows_short_lem = windows_short_read (read_windows b)
+  windows_short_lem = windows_short_by (read_windows b)
 
--- what is left where there is no room is what was there
-state_by : {A : Type 0} (short : Bool) (s : Store) (r : Result Store A) → cond short s r.state ≡ (cond short (unchanged s F.NoSpace) r).state
-state_by true s r = refl
-state_by false s r = refl
+module _ {A : Type 0} (room : ℕ) (s : Store) (r : Result Store A) where
+  -- what is left where there is no room is what was there
+  pub roomy_state : (roomy_in room s r).state ≡ cond (too_short room (stored_by r)) s r.state
+  roomy_state = by_test (too_short room (stored_by r)) (λ e. rw e) (λ e. rw e)
 
--- ## A call that is accepted has room
+  -- where it is not turned down there was room
+  pub has_room : (a : A) → (roomy_in room s r).answer ≡ answers a → too_short room (stored_by (roomy_in room s r)) ≡ false
+  has_room a f = by_test (too_short room (stored_by r)) (λ k. let z = rw k at f in let w : ⊥ = cc in absurd w) (λ k. rw k k)
 
--- the record that a call stores has room
-has_room : (s : Store) (c : Call) (room : ℕ) → no_space s.rules s.lists (record { call = c; room = room }) ≡ false → verdict s.rules c ≡ R.accepted
-    → O.stored_by s.rules s.lists c ≡ if_accepted (verdict s.rules c) (Some (record_bytes (after s.rules s.lists c))) None
-    → (l : Lists) → l ≡ after s.rules s.lists c → length (record_bytes l) ≤ room
-unfolding no_space
-has_room s c room k v g l e =
-    let f : too_short room (record_bytes (after s.rules s.lists c)) ≡ false
-    = sym (ap (lacks_room room) (g ∙ ap (λ (w : R.Verdict). if_accepted w (Some (record_bytes (after s.rules s.lists c))) None) v)) ∙ k in
-    let m = ap (λ (x : Lists). length (record_bytes x)) e in
-    omega (arith, ltb-false room (length (record_bytes (after s.rules s.lists c))) f)
+module _ {A : Type 0} (r : Result Store A) where
+  -- what is answered and asked for where a request is taken, and where it is turned down
+  pub record Gives (effects : List Effect) : Type 0 where
+    pub value : A
+    pub answer : r.answer ≡ answers value
+    pub asks : r.effects ≡ effects
 
--- the room was tested
-room_tested : (short : Bool) (v : StdResult (Unit {0}) Refusal) → with_room short v ≡ (Ok tt) → (short ≡ false) × (v ≡ (Ok tt))
-room_tested true (Ok tt) e = let z : ◌≡◌ {A = ℕ} 0 1 = cc in absurd (omega arith)
-room_tested false (Ok tt) e = (refl, refl)
-room_tested short (Err cause) e = let z : ◌≡◌ {A = ℕ} 0 1 = cc in absurd (omega arith)
+  pub record Refuses (cause : Refusal) (effects : List Effect) : Type 0 where
+    pub answer : r.answer ≡ refused cause
+    pub asks : r.effects ≡ effects
+
+-- what a table says of a request, with the effects of one that is taken and of a refusal, and what it leaves are what the model's call makes of
+-- its list store
+pub record Tells {A : Type 0} (t : List ℕ) (room : ℕ) (call : Store → Result Store A) (taken : List Effect) (turned_down : Refusal → List Effect)
+    (said : StdResult (Unit {0}) Refusal) (left : List ℕ) : Type 0 where
+  pub accepted : said ≡ Ok tt → Gives (roomy_in room (store_in t) (call (store_in t))) taken
+  pub refused : (cause : Refusal) → said ≡ Err cause → Refuses (roomy_in room (store_in t) (call (store_in t))) cause (turned_down cause)
+  pub follows : store_in left ≡ (roomy_in room (store_in t) (call (store_in t))).state
+  pub long : length left ≡ length t
 
 -- ## SetTimeZone
 
 module _ (t b : List ℕ) (room : ℕ) where
-  -- what the model's call leaves, answers and asks for, by what is said
-  abbrev pub zones_told : StdResult (Unit {0}) Refusal → Result Store Bool
+  -- what the model's call leaves, answers and asks for, with room for the record
+  abbrev zones_by : Result Store Bool
+  zones_by = roomy_in room (store_in t) (M.set_time_zone (store_in t) b)
+
+  -- the same, by what is said
+  abbrev zones_told : StdResult (Unit {0}) Refusal → Result Store Bool
   zones_told (Ok tt) =
       record {
         state = changed_by (store_in t) (SetTimeZone b);
@@ -99,47 +99,28 @@ module _ (t b : List ℕ) (room : ℕ) where
       }
   zones_told (Err cause) = unchanged (store_in t) cause
 
-  zones_cases : (short : Bool) → cond short (unchanged (store_in t) F.NoSpace) (zones_told (Ok tt)) ≡ zones_told (with_room short (Ok tt))
-  zones_cases true = refl
-  zones_cases false = refl
+  zones_by_verdict : (v : R.Verdict)
+      → roomy_in room (store_in t) (M.time_zone_set (store_in t) b v) ≡ zones_told (with_room (too_short room (stored_by (M.time_zone_set (store_in t) b v))) (verdict_of v))
+  unfolding stores
+  zones_by_verdict R.accepted = by_test (too_short room (stored_by (M.time_zone_set (store_in t) b R.accepted))) (λ e. rw e) (λ e. rw e)
+  zones_by_verdict (R.turned_down cause) = rw (le-ltb room 0 (omega arith))
 
-  zones_by_lem : (v : R.Verdict) → verdict (rules_in t) (SetTimeZone b) ≡ v → zones_by t b room ≡ cond (zones_short t b room) (unchanged (store_in t) F.NoSpace) (M.time_zone_set (store_in t) b v)
-  unfolding zones_by M.set_time_zone
-  zones_by_lem v e =
-      ap (λ (x : Bool). cond x (unchanged (store_in t) F.NoSpace) (M.time_zone_set (store_in t) b (verdict (rules_in t) (SetTimeZone b)))) (zones_short_lem (store_in t) b room)
-      ∙ ap (λ (w : R.Verdict). cond (zones_short t b room) (unchanged (store_in t) F.NoSpace) (M.time_zone_set (store_in t) b w)) e
+  zones_told_lem : zones_by ≡ zones_told (time_zone_said t b room)
+  unfolding M.set_time_zone
+  zones_told_lem =
+      let v = verdict (rules_in t) (SetTimeZone b) in
+      zones_by_verdict v ∙ ap zones_told (sym (zones_said t b room (verdict_of v) _ (zones_are_lem (rules_in t) b) (sym (zones_short_lem (store_in t) b room))))
 
-  said_by : (v : R.Verdict) (short : Bool) → verdict (rules_in t) (SetTimeZone b) ≡ v → zones_short t b room ≡ short → time_zone_said t b room ≡ with_room short (verdict_of v)
-  said_by v short e k = zones_said t b room (verdict_of v) short (zones_are_lem (rules_in t) b ∙ ap verdict_of e) k
-
-  pub zones_told_lem : zones_by t b room ≡ zones_told (time_zone_said t b room)
-  unfolding no_space O.stored_by
-  zones_told_lem = go (verdict (rules_in t) (SetTimeZone b)) refl
-    where
-      go : (v : R.Verdict) → verdict (rules_in t) (SetTimeZone b) ≡ v → zones_by t b room ≡ zones_told (time_zone_said t b room)
-      go R.accepted e = zones_by_lem R.accepted e ∙ zones_cases (zones_short t b room) ∙ sym (ap zones_told (said_by R.accepted (zones_short t b room) e refl))
-      go (R.turned_down cause) e =
-          let k : zones_short t b room ≡ false = ap (λ (w : R.Verdict). lacks_room room (if_accepted w (Some (record_bytes (after (rules_in t) (lists_in t) (SetTimeZone b)))) None)) e in
-          zones_by_lem (R.turned_down cause) e ∙ ap (λ (x : Bool). cond x (unchanged (store_in t) F.NoSpace) (unchanged (store_in t) cause)) k ∙ sym (ap zones_told (said_by (R.turned_down cause) false e k))
-
-  module _ (h : table_size ≤ length t) (c : AreBytes b) where
-    pub zones_follow : store_in (time_zone_left t b room) ≡ (zones_by t b room).state
-    unfolding zones_by store_after_sized M.store_after
-    zones_follow =
-        time_zone_follows t b room h c ∙ ap (λ (x : Bool). cond x (store_in t) (M.set_time_zone (store_in t) b).state) (sym (zones_short_lem (store_in t) b room))
-        ∙ state_by (too_short room (stored_by (M.set_time_zone (store_in t) b))) (store_in t) (M.set_time_zone (store_in t) b)
-
-    module _ (a : time_zone_said t b room ≡ (Ok tt)) where
-      -- the lists that are left are the model's, and their record has room
-      pub zones_lists : lists_in (time_zone_left t b room) ≡ after (rules_in t) (lists_in t) (SetTimeZone b)
-      zones_lists = ap (λ (s : Store). s.lists) zones_follow ∙ ap (λ (r : Result Store Bool). r.state.lists) (zones_told_lem ∙ ap zones_told a)
-
-      pub zones_roomy : length (record_bytes (lists_in (time_zone_left t b room))) ≤ room
-      unfolding time_zone_said O.stored_by
-      zones_roomy =
-          let p = room_tested (zones_short t b room) (zones_tested (rules_in t).zone_limit b) a in
-          has_room (store_in t) (SetTimeZone b) room p.0 (is_accepted (verdict (rules_in t) (SetTimeZone b)) (sym (zones_are_lem (rules_in t) b) ∙ p.1)) refl
-          (lists_in (time_zone_left t b room)) zones_lists
+  pub zones_tell : table_size ≤ length t → AreBytes b
+      → Tells t room (λ x. M.set_time_zone x b) (wake_timer ∷ store_record ∷ report TimeZone ∷ report DSTOffset ∷ []) (λ cause. []) (time_zone_said t b room) (time_zone_left t b room)
+  unfolding store_after_sized M.store_after
+  zones_tell h c =
+      record {
+        accepted = λ e. rw (zones_told_lem, e) (record { value = true; answer = refl; asks = refl });
+        refused = λ cause e. rw (zones_told_lem, e) (record { answer = refl; asks = refl });
+        follows = time_zone_follows t b room h c ∙ rw (roomy_state, zones_short_lem (store_in t) b room);
+        long = (lengths_stay t b room).time_zone;
+      }
 
 -- ## SetDSTOffset
 
@@ -148,7 +129,10 @@ counted_differs : (g : ℕ) → next_generation g ≡ g → ⊥
 counted_differs g e = omega arith
 
 module _ (t b : List ℕ) (room : ℕ) where
-  abbrev pub windows_told : StdResult (Unit {0}) Refusal → Result Store (Unit {0})
+  abbrev windows_by : Result Store (Unit {0})
+  windows_by = roomy_in room (store_in t) (M.set_dst_offset (store_in t) b)
+
+  abbrev windows_told : StdResult (Unit {0}) Refusal → Result Store (Unit {0})
   windows_told (Ok tt) =
       record {
         state = changed_by (store_in t) (SetDSTOffset b);
@@ -162,88 +146,57 @@ module _ (t b : List ℕ) (room : ℕ) where
         effects = when (empties cause) wake_timer;
       }
 
-  windows_cases : (short : Bool) → cond short (unchanged (store_in t) F.NoSpace) (windows_told (Ok tt)) ≡ windows_told (with_room short (Ok tt))
-  windows_cases true = refl
-  windows_cases false = refl
-
-  windows_by_lem : (o : Option (List Window)) → read_windows b ≡ o → windows_by t b room ≡ cond (windows_short t b room) (unchanged (store_in t) F.NoSpace) (M.windows_read (store_in t) b o)
-  unfolding windows_by M.set_dst_offset
-  windows_by_lem o e =
-      ap (λ (x : Bool). cond x (unchanged (store_in t) F.NoSpace) (M.windows_read (store_in t) b (read_windows b))) (windows_short_lem (store_in t) b room)
-      ∙ ap (λ (p : Option (List Window)). cond (windows_short t b room) (unchanged (store_in t) F.NoSpace) (M.windows_read (store_in t) b p)) e
-
-  windows_said_by : (v : R.Verdict) (short : Bool) → verdict (rules_in t) (SetDSTOffset b) ≡ v → windows_short t b room ≡ short → dst_offset_said t b room ≡ with_room short (verdict_of v)
-  windows_said_by v short e k = windows_said t b room (verdict_of v) short (windows_are_lem (rules_in t) b ∙ ap verdict_of e) k
-
-  -- one that is turned down stores nothing
-  none_stored : (cause : Refusal) → verdict (rules_in t) (SetDSTOffset b) ≡ R.turned_down cause → windows_short t b room ≡ false
-  unfolding no_space O.stored_by
-  none_stored cause e = ap (λ (w : R.Verdict). lacks_room room (if_accepted w (Some (record_bytes (after (rules_in t) (lists_in t) (SetDSTOffset b)))) None)) e
+  windows_said_lem : dst_offset_said t b room ≡ with_room (too_short room (stored_by (M.set_dst_offset (store_in t) b))) (verdict_of (windows_verdict (rules_in t) (read_windows b)))
+  unfolding verdict
+  windows_said_lem = windows_said t b room _ _ (windows_are_lem (rules_in t) b) (sym (windows_short_lem (store_in t) b room))
 
   module _ (h : table_size ≤ length t) (c : AreBytes b) where
+    windows_follow : store_in (dst_offset_left t b room) ≡ windows_by.state
+    unfolding store_after_sized M.store_after
+    windows_follow =
+        dst_offset_follows t b room h c ∙ rw (roomy_state, windows_short_lem (store_in t) b room)
+
     -- readable windows that are turned down leave none: the model counts a change
     leaves_none : (ws : List Window) (cause : Refusal) → read_windows b ≡ Some ws → test_windows (rules_in t) ws ≡ R.turned_down cause → empties cause ≡ true
-    unfolding verdict dst_offset_left store_after_sized M.store_after M.set_dst_offset
+    unfolding dst_offset_left M.set_dst_offset stores
     leaves_none ws cause e a =
-        let v : verdict (rules_in t) (SetDSTOffset b) ≡ R.turned_down cause = ap (windows_verdict (rules_in t)) e ∙ a in
-        let k = none_stored cause v in
         by_test (empties cause) (λ y. y)
         (λ n.
-        let stays = windows_stay t (dst_offset_said t b room) cause (read_windows b) (sym (windows_said_by (R.turned_down cause) false v k)) n in
-        let q : generation_in t ≡ next_generation (generation_in t)
-        = ap generation_in stays ∙ ap (λ (x : Store). x.generation) (dst_offset_follows t b room h c)
-        ∙ ap (λ (x : Bool). (cond x (store_in t) (M.windows_read (store_in t) b (read_windows b)).state).generation) k
-        ∙ ap (λ (p : Option (List Window)). (M.windows_read (store_in t) b p).state.generation) e
-        ∙ ap (λ (w : R.Verdict). (M.windows_tested (store_in t) b w).state.generation) a in
-        absurd (counted_differs (generation_in t) (sym q)))
+        let said : Err cause ≡ dst_offset_said t b room = rw (windows_said_lem, e, a) in
+        let stays = windows_stay t (dst_offset_said t b room) cause (read_windows b) said n in
+        let counts : windows_by.state.generation ≡ next_generation (generation_in t) = rw (e, a, le-ltb room 0 (omega arith)) in
+        absurd (counted_differs (generation_in t) (sym (ap generation_in stays ∙ ap (λ (x : Store). x.generation) windows_follow ∙ counts))))
 
-    pub windows_told_lem : windows_by t b room ≡ windows_told (dst_offset_said t b room)
-    unfolding verdict
-    windows_told_lem = go (read_windows b) refl
+    windows_by_read : (o : Option (List Window)) → read_windows b ≡ o
+        → roomy_in room (store_in t) (M.windows_read (store_in t) b o)
+        ≡ windows_told (with_room (too_short room (stored_by (M.windows_read (store_in t) b o))) (verdict_of (windows_verdict (rules_in t) o)))
+    unfolding stores
+    windows_by_read None e = rw (le-ltb room 0 (omega arith))
+    windows_by_read (Some ws) e = tested (test_windows (rules_in t) ws) refl
       where
-        tested : (ws : List Window) → read_windows b ≡ Some ws → (v : R.Verdict) → test_windows (rules_in t) ws ≡ v → windows_by t b room ≡ windows_told (dst_offset_said t b room)
-        tested ws e R.accepted a =
-            let v : verdict (rules_in t) (SetDSTOffset b) ≡ R.accepted = ap (windows_verdict (rules_in t)) e ∙ a in
-            windows_by_lem (Some ws) e ∙ ap (λ (w : R.Verdict). cond (windows_short t b room) (unchanged (store_in t) F.NoSpace) (M.windows_tested (store_in t) b w)) a
-            ∙ windows_cases (windows_short t b room) ∙ sym (ap windows_told (windows_said_by R.accepted (windows_short t b room) v refl))
-        tested ws e (R.turned_down cause) a =
-            let v : verdict (rules_in t) (SetDSTOffset b) ≡ R.turned_down cause = ap (windows_verdict (rules_in t)) e ∙ a in
-            let k = none_stored cause v in
-            windows_by_lem (Some ws) e ∙ ap (λ (w : R.Verdict). cond (windows_short t b room) (unchanged (store_in t) F.NoSpace) (M.windows_tested (store_in t) b w)) a
-            ∙ ap (λ (x : Bool). cond x (unchanged (store_in t) F.NoSpace) (M.windows_tested (store_in t) b (R.turned_down cause))) k
-            ∙ sym
-            (ap windows_told (windows_said_by (R.turned_down cause) false v k)
-            ∙ ap (λ (x : Bool). record { state = cond x (changed_by (store_in t) (SetDSTOffset b)) (store_in t); answer = refused cause; effects = when x wake_timer }) (leaves_none ws cause e a))
+        tested : (v : R.Verdict) → test_windows (rules_in t) ws ≡ v
+            → roomy_in room (store_in t) (M.windows_tested (store_in t) b v) ≡ windows_told (with_room (too_short room (stored_by (M.windows_tested (store_in t) b v))) (verdict_of v))
+        tested R.accepted a = by_test (too_short room (stored_by (M.windows_tested (store_in t) b R.accepted))) (λ k. rw k) (λ k. rw k)
+        tested (R.turned_down cause) a = rw (le-ltb room 0 (omega arith), leaves_none ws cause e a)
 
-        go : (o : Option (List Window)) → read_windows b ≡ o → windows_by t b room ≡ windows_told (dst_offset_said t b room)
-        go None e =
-            let v : verdict (rules_in t) (SetDSTOffset b) ≡ R.turned_down F.Unreadable = ap (windows_verdict (rules_in t)) e in
-            let k = none_stored F.Unreadable v in
-            windows_by_lem None e ∙ ap (λ (x : Bool). cond x (unchanged (store_in t) F.NoSpace) (unchanged (store_in t) F.Unreadable)) k
-            ∙ sym (ap windows_told (windows_said_by (R.turned_down F.Unreadable) false v k))
-        go (Some ws) e = tested ws e (test_windows (rules_in t) ws) refl
+    windows_told_lem : windows_by ≡ windows_told (dst_offset_said t b room)
+    unfolding M.set_dst_offset
+    windows_told_lem = windows_by_read (read_windows b) refl ∙ ap windows_told (sym windows_said_lem)
 
-    pub windows_follow : store_in (dst_offset_left t b room) ≡ (windows_by t b room).state
-    unfolding windows_by store_after_sized M.store_after
-    windows_follow =
-        dst_offset_follows t b room h c ∙ ap (λ (x : Bool). cond x (store_in t) (M.set_dst_offset (store_in t) b).state) (sym (windows_short_lem (store_in t) b room))
-        ∙ state_by (too_short room (stored_by (M.set_dst_offset (store_in t) b))) (store_in t) (M.set_dst_offset (store_in t) b)
-
-    module _ (a : dst_offset_said t b room ≡ (Ok tt)) where
-      pub windows_lists : lists_in (dst_offset_left t b room) ≡ after (rules_in t) (lists_in t) (SetDSTOffset b)
-      windows_lists = ap (λ (s : Store). s.lists) windows_follow ∙ ap (λ (r : Result Store (Unit {0})). r.state.lists) (windows_told_lem ∙ ap windows_told a)
-
-      pub windows_roomy : length (record_bytes (lists_in (dst_offset_left t b room))) ≤ room
-      unfolding dst_offset_said O.stored_by
-      windows_roomy =
-          let p = room_tested (windows_short t b room) (windows_tested (rules_in t).window_limit b) a in
-          has_room (store_in t) (SetDSTOffset b) room p.0 (is_accepted (verdict (rules_in t) (SetDSTOffset b)) (sym (windows_are_lem (rules_in t) b) ∙ p.1)) refl
-          (lists_in (dst_offset_left t b room)) windows_lists
+    pub windows_tell : Tells t room (λ x. M.set_dst_offset x b) (wake_timer ∷ store_record ∷ report DSTOffset ∷ []) (λ cause. when (empties cause) wake_timer) (dst_offset_said t b room) (dst_offset_left t b room)
+    windows_tell =
+        record {
+          accepted = λ e. rw (windows_told_lem, e) (record { value = tt; answer = refl; asks = refl });
+          refused = λ cause e. rw (windows_told_lem, e) (record { answer = refl; asks = refl });
+          follows = windows_follow;
+          long = (lengths_stay t b room).dst_offset;
+        }
 
 -- ## Load
 
-pub load_told : (t b : List ℕ) (v : R.Verdict) → load_said t b ≡ verdict_of v → load_by t b ≡ M.store_loaded (store_in t) (Some b) v
-unfolding load_said record_tested load_by M.load
+-- what is said of a record is what the model answers
+pub load_told : (t b : List ℕ) (v : R.Verdict) → load_said t b ≡ verdict_of v → M.load (store_in t) (Some b) ≡ M.store_loaded (store_in t) (Some b) v
+unfolding load_said record_tested M.load
 load_told t b v e = ap (M.store_loaded (store_in t) (Some b)) (same_said (verdict (rules_in t) (Load (Some b))) v e)
   where
     same_said : (u v : R.Verdict) → verdict_of u ≡ verdict_of v → u ≡ v

@@ -1,67 +1,52 @@
 -- The parts of the calls that the functions inside answer.
-use Rattle.std.specs.Prelude.{Bool, cond, List, [], ℕ, length, Option, None, Some, Ok, Err}
+use Rattle.std.specs.Prelude.{Bool, cond, List, ◌∷◌, [], ◌≡◌, ℕ, length, ok_or, Ok, Err}
 use Rattle.std.specs.Prelude.{Result as StdResult}
+use Rattle.std.specs.Option.{option_zip}
 use Rattle.model.specs.declared.Refusal.{Refusal}
-use Rattle.model.specs.declared.Refusal.TheVariants.{CommandNotFound, BadLimits, NoSpace}
-use Rattle.model.specs.Answers.{number_of, Result, unchanged}
+use Rattle.model.specs.declared.Refusal.TheVariants.{Unreadable, CommandNotFound, BadLimits}
+use Rattle.model.specs.declared.TimeGranularity.{TimeGranularity}
+use Rattle.model.specs.declared.TimeSource.{TimeSource}
+use Rattle.model.specs.Basics.{when}
+use Rattle.model.specs.Numbers.{granularity_of, source_of, refusal_number}
+use Rattle.model.specs.Answers.{number_of, Effect, report, wake_timer, store_record, TimeZone, DSTOffset, Result}
 use Rattle.model.specs.Codes.{returned}
-use Rattle.model.specs.Rules.{allowed}
-use Rattle.model.specs.Output.{too_short, copied_over, stores}
-use Rattle.model.specs.Store as M
-use Rattle.model.specs.Store.{Store}
-use Rattle.table.specs.Layout.{store_in}
-use Rattle.table.specs.Left as T
-use Rattle.image.specs.declared.parts.Limits.{Limits}
+use Rattle.model.specs.Output.{copied_over, truth}
+use Rattle.rtc.specs.declared.Rtc.{Rtc}
+use Rattle.rtc.specs.Meaning.{clock_of}
+use Rattle.model.specs.Handler.{Device}
+use Rattle.table.specs.Left.{empties}
 use Rattle.image.specs.Layout.{is_image}
-use Rattle.image.specs.Parts.{has_lists}
-use Rattle.commands.specs.Calls.{Called, Storing}
+use Rattle.image.specs.Parts.{clock_in, has_lists, with_clock}
+use Rattle.image.specs.Asked.{record_stored}
 
--- the limits of the list store that is asked for, where it can have them; they count only where there is to be one
-abbrev pub limits_asked : Bool → ℕ → ℕ → StdResult (Option Limits) Refusal
-limits_asked there zones windows =
-    cond there (cond (allowed (record { zone_limit = zones; window_limit = windows })) (Ok (Some (record { zones = zones; windows = windows }))) (Err BadLimits)) (Ok None)
+-- the granularity and the source of a setting of an image, where their numbers name them
+abbrev pub setting_read : List ℕ → ℕ → ℕ → StdResult (TimeGranularity × TimeSource) Refusal
+setting_read s granularity source = cond (is_image s) (ok_or (option_zip (granularity_of granularity) (source_of source)) Unreadable) (Err BadLimits)
+
+-- what a setting returns and leaves, by what the call on the clock may answer: the clock after it, whether something changed, and what is returned
+abbrev pub Sets : (Rtc → TimeGranularity → TimeSource → Rtc × Bool × ℕ → Type 0) → List ℕ → StdResult (TimeGranularity × TimeSource) Refusal → ℕ → ℕ → List ℕ → ℕ → Type 0
+Sets may s (Err cause) was n t m = (n ≡ returned (refusal_number cause) []) × (t ≡ s) × (m ≡ was)
+Sets may s (Ok p) was n t m =
+    (c : Rtc) × (r : Rtc × Bool × ℕ) × (clock_of c ≡ clock_in s) × may c p.0 p.1 r × (n ≡ r.2) × (t ≡ with_clock s (clock_of r.0)) × (m ≡ truth r.1)
 
 -- whether a command on the lists is taken up, before its request is read
 abbrev pub check_lists : List ℕ → StdResult (Unit {0}) Refusal
 check_lists s = cond (is_image s) (cond (has_lists s) (Ok tt) (Err CommandNotFound)) (Err BadLimits)
 
--- ## A call on a list store, which is a table
+-- ## What a command on the lists answers: how long the record is that it stores, or why it is turned down
 
 module _ {A : Type 0} where
-  -- the record that it stores, where it stores one
-  abbrev pub stored_by : Result Store A → List ℕ
-  stored_by r = cond (stores r.effects) (M.record_of r.state) []
+  -- the effects of one that is taken, and of a refusal
+  abbrev pub AnswersBy : List Effect → (Refusal → List Effect) → Result Device A → StdResult ℕ Refusal → Type 0
+  AnswersBy taken turned_down r (Ok n) = (number_of r.answer ≡ 0) × (r.effects ≡ taken) × (n ≡ length (record_stored r))
+  AnswersBy taken turned_down r (Err cause) = (number_of r.answer ≡ refusal_number cause) × (r.effects ≡ turned_down cause)
 
-  -- the record has room; else nothing changes
-  abbrev pub roomy_in : ℕ → Store → Result Store A → Result Store A
-  roomy_in room s r = cond (too_short room (stored_by r)) (unchanged s NoSpace) r
+  abbrev pub AnswersTimeZone : Result Device A → StdResult ℕ Refusal → Type 0
+  AnswersTimeZone r said = AnswersBy (wake_timer ∷ store_record ∷ report TimeZone ∷ report DSTOffset ∷ []) (λ cause. []) r said
 
-  -- what is returned, the table that is left, and what stands in what was lent for the record
-  abbrev pub storing_by : List ℕ → Result Store A → List ℕ → ℕ → Storing
-  storing_by table r out used =
-      record {
-        returned = returned (number_of r.answer) r.effects;
-        image = table;
-        out = copied_over (stored_by r) out;
-        used = cond (stores r.effects) (length (stored_by r)) used;
-      }
+  abbrev pub AnswersDSTOffset : Result Device A → StdResult ℕ Refusal → Type 0
+  AnswersDSTOffset r said = AnswersBy (wake_timer ∷ store_record ∷ report DSTOffset ∷ []) (λ cause. when (empties cause) wake_timer) r said
 
-unfoldable pub zones_by : List ℕ → List ℕ → ℕ → Result Store Bool
-zones_by t request room = roomy_in room (store_in t) (M.set_time_zone (store_in t) request)
-
-abbrev pub zones_taken : List ℕ → List ℕ → List ℕ → ℕ → Storing
-zones_taken t request out used = storing_by (T.time_zone_left t request (length out)) (zones_by t request (length out)) out used
-
-unfoldable pub windows_by : List ℕ → List ℕ → ℕ → Result Store (Unit {0})
-windows_by t request room = roomy_in room (store_in t) (M.set_dst_offset (store_in t) request)
-
-abbrev pub windows_taken : List ℕ → List ℕ → List ℕ → ℕ → Storing
-windows_taken t request out used = storing_by (T.dst_offset_left t request (length out)) (windows_by t request (length out)) out used
-
--- a load of a record
-unfoldable pub load_by : List ℕ → List ℕ → Result Store (Unit {0})
-load_by t bytes = M.load (store_in t) (Some bytes)
-
-abbrev pub load_taken : List ℕ → List ℕ → Called
-load_taken t bytes =
-    record { returned = returned (number_of (load_by t bytes).answer) (load_by t bytes).effects; image = T.load_left t bytes }
+  -- the record that is stored, at the front of the slice
+  abbrev pub record_left : Result Device A → List ℕ → List ℕ
+  record_left r out = copied_over (record_stored r) out

@@ -5,15 +5,9 @@ ghost use Rattle.rtc.specs.Meaning.{option_source};
 ghost use Rattle.image.specs.Asked.{given};
 ghost use Rattle.commands.specs.Calls.{source_by};
 
+use image::asked::given;
 use model::TimeSource;
 use rtc::TrustedTimeSource;
-
-// What is there where its mark is not 0.
-pub(crate) fn given<T: Drop>(mark: u8, value: T) -> Option<T>
-    ensures { result ≡ given mark value }
-{
-    (mark != 0).then_some(value)
-}
 
 // A trusted time source.
 pub(crate) fn source(
@@ -38,5 +32,5 @@ pub(crate) fn source(
 pub(crate) fn source_readable(mark: u8, n: u8) -> bool
     ensures { result ≡ source_readable (given mark n) }
 {
-    mark == 0 || TimeSource::try_from(n).is_ok()
+    given(mark, n).is_none_or(|n| TimeSource::try_from(n).is_ok())
 }

@@ -2,18 +2,21 @@
 ghost use Rattle.std.specs.Prelude.{◌≡◌};
 ghost use Rattle.image.specs.Asked.{given};
 ghost use Rattle.commands.specs.Calls.{set_utc_time_command, set_trusted_time_source, named_by, rtc_set, rtc_set_persist, source_by, load_clock, reset_clock};
+ghost use Rattle.commands.specs.Taken.{setting_read, Sets};
 
 use crate::codes::{CLOCK_RESET, UTC_REPORTED};
 use crate::{arguments, codes};
-use image::codes::TAKEN;
+use image::asked::given;
 use image::parts::{put_rtc, rtc_in};
 use image::place::{has_lists, is_image};
-use model::{Refusal, TimeGranularity, TimeSource};
+use model::{Refusal, TAKEN, TimeGranularity, TimeSource};
+use rtc::Rtc;
 
 // ## Commands
 
 // SetUTCTime; `source` is the request's time source where `has_source` is not 0. The UTC time is set with source Admin; the timer is woken
 // where there is a list store, changed or not.
+#[tactic(auto, unfolding(crate::specs::Calls::utc_time_set, model::specs::Handler::set_utc_time_command))]
 pub fn set_utc_time(
     image: &mut [u8],
     utc_us: u64,
@@ -22,8 +25,7 @@ pub fn set_utc_time(
     source: u8,
     tick: u64,
 ) -> u64
-    ensures { (result ≡ (set_utc_time_command image.old utc_us granularity (given has_source source) tick).returned)
-        × (image.new ≡ (set_utc_time_command image.old utc_us granularity (given has_source source) tick).image) }
+    ensures { let set = set_utc_time_command image.old utc_us granularity (given has_source source) tick in (result ≡ set.returned) × (image.new ≡ set.image) }
 {
     if !is_image(image) {
         return codes::refusal(Refusal::BadLimits);
@@ -42,6 +44,7 @@ pub fn set_utc_time(
 
 // SetTrustedTimeSource for the fabric that asks; without a named node the source is cleared. The source is stored or removed; the client is
 // woken even where the source is equal.
+#[tactic(auto, unfolding(crate::specs::Calls::source_set, model::specs::Handler::set_trusted_time_source))]
 pub fn set_trusted_time_source(
     image: &mut [u8],
     fab_idx: u8,
@@ -49,8 +52,7 @@ pub fn set_trusted_time_source(
     node_id: u64,
     endpoint: u16,
 ) -> u64
-    ensures { (result ≡ (set_trusted_time_source image.old fab_idx (named_by named node_id endpoint)).returned)
-        × (image.new ≡ (set_trusted_time_source image.old fab_idx (named_by named node_id endpoint)).image) }
+    ensures { let set = set_trusted_time_source image.old fab_idx (named_by named node_id endpoint) in (result ≡ set.returned) × (image.new ≡ set.image) }
 {
     if fab_idx == 0 {
         return codes::refusal(Refusal::InvalidCommand);
@@ -59,14 +61,42 @@ pub fn set_trusted_time_source(
         return codes::refusal(Refusal::BadLimits);
     }
     let source = arguments::source(named, fab_idx, node_id, endpoint);
-    let set = rtc_in(image).set_trusted_time_source_persist(source);
+    let set = rtc_in(image).set_trusted_time_source(source);
     put_rtc(image, set.rtc);
-    codes::trusted_source(set.stored)
+    codes::trusted_source(set.change)
 }
 
 // ## The clock's own settings
 
+// Sets the clock of an image by a call on it, which answers the clock after it, whether something changed, and what is returned.
+fn set_by<F: FnOnce(Rtc, TimeGranularity, TimeSource) -> (Rtc, bool, u64)>(
+    image: &mut [u8],
+    granularity: u8,
+    source: u8,
+    changed: &mut u64,
+    set: F,
+) -> u64
+    requires { F.IsAlwaysCallable set }
+    ensures { Sets (λ rtc g t r. F.post set rtc g t r) image.old (setting_read image.old granularity source) changed.old result image.new changed.new }
+{
+    if !is_image(image) {
+        return codes::refusal(Refusal::BadLimits);
+    }
+    let numbers = (
+        TimeGranularity::try_from(granularity),
+        TimeSource::try_from(source),
+    );
+    let (Ok(granularity), Ok(source)) = numbers else {
+        return codes::refusal(Refusal::Unreadable);
+    };
+    let (rtc, anew, number) = set(rtc_in(image), granularity, source);
+    put_rtc(image, rtc);
+    *changed = u64::from(anew);
+    number
+}
+
 // Sets the UTC time with a source of any kind; `changed` is whether something changed.
+#[tactic(auto, unfolding(crate::specs::Calls::clock_set, model::specs::Codes::returned, model::specs::Bytes::number))]
 pub fn rtc_set_utc_time(
     image: &mut [u8],
     utc_us: u64,
@@ -75,27 +105,22 @@ pub fn rtc_set_utc_time(
     tick: u64,
     changed: &mut u64,
 ) -> u64
-    ensures { (result ≡ (rtc_set image.old utc_us granularity source tick changed.old).returned)
-        × (image.new ≡ (rtc_set image.old utc_us granularity source tick changed.old).image)
-        × (changed.new ≡ (rtc_set image.old utc_us granularity source tick changed.old).changed) }
+    ensures { let set = rtc_set image.old utc_us granularity source tick changed.old in (result ≡ set.returned) × (image.new ≡ set.image) × (changed.new ≡ set.changed) }
 {
-    if !is_image(image) {
-        return codes::refusal(Refusal::BadLimits);
-    }
-    let numbers = TimeGranularity::try_from(granularity)
-        .ok()
-        .zip(TimeSource::try_from(source).ok());
-    let Some((granularity, source)) = numbers else {
-        return codes::refusal(Refusal::Unreadable);
-    };
-    let set = rtc_in(image).set_utc_time(utc_us, granularity, source, tick);
-    put_rtc(image, set.rtc);
-    *changed = u64::from(set.changed);
-    UTC_REPORTED
+    set_by(
+        image,
+        granularity,
+        source,
+        changed,
+        |rtc, granularity, source| {
+            let set = rtc.set_utc_time(utc_us, granularity, source, tick);
+            (set.rtc, set.changed, UTC_REPORTED)
+        },
+    )
 }
 
-// The same, and has the moment stored that is a day or more from the persisted one. The two stay apart: one function over both would take the
-// clock's call and the codes of its outcome as closures, and be no shorter.
+// The same, and has the moment stored that is a day or more from the persisted one.
+#[tactic(auto, unfolding(crate::specs::Calls::clock_set_persist))]
 pub fn rtc_set_utc_time_persist(
     image: &mut [u8],
     utc_us: u64,
@@ -104,28 +129,24 @@ pub fn rtc_set_utc_time_persist(
     tick: u64,
     changed: &mut u64,
 ) -> u64
-    ensures { (result ≡ (rtc_set_persist image.old utc_us granularity source tick changed.old).returned)
-        × (image.new ≡ (rtc_set_persist image.old utc_us granularity source tick changed.old).image)
-        × (changed.new ≡ (rtc_set_persist image.old utc_us granularity source tick changed.old).changed) }
+    ensures { let set = rtc_set_persist image.old utc_us granularity source tick changed.old in (result ≡ set.returned) × (image.new ≡ set.image) × (changed.new ≡ set.changed) }
 {
-    if !is_image(image) {
-        return codes::refusal(Refusal::BadLimits);
-    }
-    let numbers = TimeGranularity::try_from(granularity)
-        .ok()
-        .zip(TimeSource::try_from(source).ok());
-    let Some((granularity, source)) = numbers else {
-        return codes::refusal(Refusal::Unreadable);
-    };
-    let set = rtc_in(image).set_utc_time_persist(utc_us, granularity, source, tick);
-    put_rtc(image, set.rtc);
-    *changed = u64::from(set.changed);
-    codes::setting(set.stored)
+    set_by(
+        image,
+        granularity,
+        source,
+        changed,
+        |rtc, granularity, source| {
+            let set = rtc.set_utc_time_persist(utc_us, granularity, source, tick);
+            (set.rtc, set.changed, codes::setting(set.stored))
+        },
+    )
 }
 
 // ## Load and reset
 
 // Loads the clock from what flash holds of it.
+#[tactic(auto, unfolding(crate::specs::Calls::clock_loaded, model::specs::Handler::load_clock, model::specs::Codes::returned, model::specs::Bytes::number))]
 pub fn load_clock(
     image: &mut [u8],
     build: u64,
@@ -136,26 +157,26 @@ pub fn load_clock(
     node_id: u64,
     endpoint: u16,
 ) -> u64
-    ensures { (result ≡ (load_clock image.old build (given has_moment moment) (source_by has_source fab_idx node_id endpoint)).returned)
-        × (image.new ≡ (load_clock image.old build (given has_moment moment) (source_by has_source fab_idx node_id endpoint)).image) }
+    ensures { let loaded = load_clock image.old build (given has_moment moment) (source_by has_source fab_idx node_id endpoint) in (result ≡ loaded.returned) × (image.new ≡ loaded.image) }
 {
     if !is_image(image) {
         return codes::refusal(Refusal::BadLimits);
     }
-    let stored = arguments::given(has_moment, moment);
+    let stored = given(has_moment, moment);
     let source = arguments::source(has_source, fab_idx, node_id, endpoint);
-    let loaded = rtc_in(image).load_persist(build, stored, source);
-    if let Err(cause) = loaded.answer {
-        return codes::refusal(cause);
+    match rtc_in(image).load_persist(build, stored, source) {
+        Ok(rtc) => {
+            put_rtc(image, rtc);
+            TAKEN
+        }
+        Err(cause) => codes::refusal(cause),
     }
-    put_rtc(image, loaded.rtc);
-    TAKEN
 }
 
 // Resets the clock.
+#[tactic(auto, unfolding(crate::specs::Calls::clock_reset, model::specs::Handler::reset_clock, model::specs::Clock::reset_persist, model::specs::Codes::returned, model::specs::Bytes::number))]
 pub fn reset_clock(image: &mut [u8], build: u64) -> u64
-    ensures { (result ≡ (reset_clock image.old build).returned)
-        × (image.new ≡ (reset_clock image.old build).image) }
+    ensures { let reset = reset_clock image.old build in (result ≡ reset.returned) × (image.new ≡ reset.image) }
 {
     if !is_image(image) {
         return codes::refusal(Refusal::BadLimits);

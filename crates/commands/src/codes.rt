@@ -15,7 +15,7 @@ use image::codes::{
     WAKE_CLIENT, WAKE_TIMER,
 };
 use model::Refusal;
-use rtc::SourceStored;
+use rtc::SourceChange;
 
 // ## What calls that were taken return
 
@@ -103,13 +103,13 @@ pub(crate) fn setting(stored: Option<u64>) -> u64
 
 // SetTrustedTimeSource: what becomes of the source, then the client.
 #[tactic(auto, unfolding(model::specs::Codes::returned, model::specs::Bytes::number))]
-pub(crate) fn trusted_source(stored: SourceStored) -> u64
-    ensures { result ≡ returned 0 (stored_effects stored ++ (wake_client ∷ [])) }
+pub(crate) fn trusted_source(change: SourceChange) -> u64
+    ensures { result ≡ returned 0 (stored_effects change ++ (wake_client ∷ [])) }
 {
-    match stored {
-        SourceStored::Same => SOURCE_SAME,
-        SourceStored::Stored(_) => SOURCE_STORED,
-        SourceStored::Removed => SOURCE_REMOVED,
+    match change {
+        SourceChange::Same => SOURCE_SAME,
+        SourceChange::Installed(_) => SOURCE_STORED,
+        SourceChange::Cleared => SOURCE_REMOVED,
     }
 }
 
@@ -118,7 +118,7 @@ pub(crate) fn trusted_source(stored: SourceStored) -> u64
 pub(crate) fn refusal(cause: Refusal) -> u64
     ensures { result ≡ returned (refusal_number cause) [] }
 {
-    u64::from(u8::from(cause))
+    u64::from(cause)
 }
 
 // A refused SetDSTOffset: its number, and the timer where the refusal leaves no window.
@@ -126,9 +126,10 @@ pub(crate) fn refusal(cause: Refusal) -> u64
 pub(crate) fn dst_offset_refused(cause: Refusal) -> u64
     ensures { result ≡ returned (refusal_number cause) (when (empties cause) wake_timer) }
 {
-    let number = u64::from(u8::from(cause));
-    match cause {
-        Refusal::ConstraintError | Refusal::ResourceExhausted => number + TIMER_WOKEN,
-        _ => number,
+    let number = u64::from(cause);
+    if table::empties(cause) {
+        number + TIMER_WOKEN
+    } else {
+        number
     }
 }

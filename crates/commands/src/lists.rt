@@ -1,18 +1,13 @@
 // Commands on the lists, their load and their reset.
-ghost use Rattle.std.specs.Prelude.{◌≡◌, ◌≤◌, length};
-ghost use Rattle.model.specs.Bytes.{record_bytes};
-ghost use Rattle.model.specs.Output.{copied_over};
-ghost use Rattle.table.specs.Layout.{table_size, lists_in};
+ghost use Rattle.std.specs.Prelude.{◌≡◌, length};
 ghost use Rattle.image.specs.Asked.{given};
-ghost use Rattle.commands.specs.Calls.{set_time_zone, set_dst_offset, load_lists, reset_lists};
-ghost use Rattle.commands.specs.Taken.{check_lists, zones_taken, windows_taken, load_taken};
+ghost use Rattle.commands.specs.Calls.{set_time_zone, zones_set, zones_image, set_dst_offset, windows_set, windows_image, load_lists, reset_lists};
+ghost use Rattle.commands.specs.Taken.{check_lists, record_left, AnswersTimeZone, AnswersDSTOffset};
 
 use crate::codes;
 use crate::codes::{DST_OFFSET_SET, LISTS_RESET, TIME_ZONE_SET};
-use image::codes::TAKEN;
 use image::place::{SIZE, TABLE, has_lists, is_image};
-use model::Refusal;
-use record::Record;
+use model::{Refusal, TAKEN};
 
 // Whether a command on the lists of these bytes is taken up, before its request is read.
 fn check_lists(image: &[u8]) -> Result<(), Refusal>
@@ -27,79 +22,62 @@ fn check_lists(image: &[u8]) -> Result<(), Refusal>
     Ok(())
 }
 
-// Copies the record of a table to the front of `out`; `used` is its length.
-fn store(table: &[u8], out: &mut [u8], used: &mut u64)
-    requires { (table_size ≤ length table.now) × (length (record_bytes (lists_in table.now)) ≤ length out.old) }
-    ensures { (out.new ≡ copied_over (record_bytes (lists_in table.now)) out.old)
-        × (used.new ≡ length (record_bytes (lists_in table.now))) }
-{
-    let mut written = Record::BLANK;
-    table::write::fill(&mut written, table);
-    word::copy(out, 0, &written.bytes, 0, written.length);
-    *used = written.length as u64;
-}
-
 // SetTimeZone; the record to store is copied to the front of `out`, and `used` is its length.
+#[tactic(auto, unfolding(model::specs::Codes::returned, model::specs::Bytes::number, model::specs::Output::stores))]
 pub fn set_time_zone(image: &mut [u8], request: &[u8], out: &mut [u8], used: &mut u64) -> u64
-    ensures { (result ≡ (set_time_zone image.old request.now out.old used.old).returned)
-        × (image.new ≡ (set_time_zone image.old request.now out.old used.old).image)
-        × (out.new ≡ (set_time_zone image.old request.now out.old used.old).out)
-        × (used.new ≡ (set_time_zone image.old request.now out.old used.old).used) }
+    ensures { let set = set_time_zone image.old request.now out.old used.old in
+        (result ≡ set.returned) × (image.new ≡ set.image) × (out.new ≡ set.out) × (used.new ≡ set.used) }
 {
-    if let Err(cause) = check_lists(image) {
-        return codes::refusal(cause);
+    match zones_set(image, request, out) {
+        Ok(n) => {
+            *used = n as u64;
+            TIME_ZONE_SET
+        }
+        Err(cause) => codes::refusal(cause),
     }
-    zones_set(&mut image[TABLE..SIZE], request, out, used)
 }
 
-// The same on the table.
-fn zones_set(table: &mut [u8], request: &[u8], out: &mut [u8], used: &mut u64) -> u64
-    requires { table_size ≤ length table.old }
-    ensures { (result ≡ (zones_taken table.old request.now out.old used.old).returned)
-        × (table.new ≡ (zones_taken table.old request.now out.old used.old).image)
-        × (out.new ≡ (zones_taken table.old request.now out.old used.old).out)
-        × (used.new ≡ (zones_taken table.old request.now out.old used.old).used) }
+// The same; how long the record is.
+fn zones_set(image: &mut [u8], request: &[u8], out: &mut [u8]) -> Result<usize, Refusal>
+    ensures { let set = zones_set image.old request.now (length out.old) in
+        AnswersTimeZone set result × (image.new ≡ zones_image image.old request.now (length out.old)) × (out.new ≡ record_left set out.old) }
 {
-    if let Err(cause) = table::set_time_zone(table, request, out.len()) {
-        return codes::refusal(cause);
-    }
-    store(table, out, used);
-    TIME_ZONE_SET
+    check_lists(image)?;
+    let table = &mut image[TABLE..SIZE];
+    table::set_time_zone(table, request, out.len())?;
+    table::write::put(table, out).ok_or(Refusal::NoSpace)
 }
 
-// SetDSTOffset; the same. It stays apart from SetTimeZone: one function over both would take the table's call, what a refusal returns and the
-// effects as parameters, and be no shorter.
+// SetDSTOffset; the same.
+#[tactic(auto, unfolding(model::specs::Codes::returned, model::specs::Bytes::number, model::specs::Output::stores))]
 pub fn set_dst_offset(image: &mut [u8], request: &[u8], out: &mut [u8], used: &mut u64) -> u64
-    ensures { (result ≡ (set_dst_offset image.old request.now out.old used.old).returned)
-        × (image.new ≡ (set_dst_offset image.old request.now out.old used.old).image)
-        × (out.new ≡ (set_dst_offset image.old request.now out.old used.old).out)
-        × (used.new ≡ (set_dst_offset image.old request.now out.old used.old).used) }
+    ensures { let set = set_dst_offset image.old request.now out.old used.old in
+        (result ≡ set.returned) × (image.new ≡ set.image) × (out.new ≡ set.out) × (used.new ≡ set.used) }
 {
-    if let Err(cause) = check_lists(image) {
-        return codes::refusal(cause);
+    match windows_set(image, request, out) {
+        Ok(n) => {
+            *used = n as u64;
+            DST_OFFSET_SET
+        }
+        Err(cause) => codes::dst_offset_refused(cause),
     }
-    windows_set(&mut image[TABLE..SIZE], request, out, used)
 }
 
-// The same on the table.
-fn windows_set(table: &mut [u8], request: &[u8], out: &mut [u8], used: &mut u64) -> u64
-    requires { table_size ≤ length table.old }
-    ensures { (result ≡ (windows_taken table.old request.now out.old used.old).returned)
-        × (table.new ≡ (windows_taken table.old request.now out.old used.old).image)
-        × (out.new ≡ (windows_taken table.old request.now out.old used.old).out)
-        × (used.new ≡ (windows_taken table.old request.now out.old used.old).used) }
+// The same; how long the record is.
+fn windows_set(image: &mut [u8], request: &[u8], out: &mut [u8]) -> Result<usize, Refusal>
+    ensures { let set = windows_set image.old request.now (length out.old) in
+        AnswersDSTOffset set result × (image.new ≡ windows_image image.old request.now (length out.old)) × (out.new ≡ record_left set out.old) }
 {
-    if let Err(cause) = table::set_dst_offset(table, request, out.len()) {
-        return codes::dst_offset_refused(cause);
-    }
-    store(table, out, used);
-    DST_OFFSET_SET
+    check_lists(image)?;
+    let table = &mut image[TABLE..SIZE];
+    table::set_dst_offset(table, request, out.len())?;
+    table::write::put(table, out).ok_or(Refusal::NoSpace)
 }
 
 // Loads the lists from their record where `there` is not 0.
+#[tactic(auto, unfolding(crate::specs::Calls::lists_loaded, model::specs::Handler::load_lists, model::specs::Codes::returned, model::specs::Bytes::number))]
 pub fn load_lists(image: &mut [u8], there: u8, stored: &[u8]) -> u64
-    ensures { (result ≡ (load_lists image.old (given there stored.now)).returned)
-        × (image.new ≡ (load_lists image.old (given there stored.now)).image) }
+    ensures { let loaded = load_lists image.old (given there stored.now) in (result ≡ loaded.returned) × (image.new ≡ loaded.image) }
 {
     if !is_image(image) {
         return codes::refusal(Refusal::BadLimits);
@@ -107,23 +85,16 @@ pub fn load_lists(image: &mut [u8], there: u8, stored: &[u8]) -> u64
     if !has_lists(image) || there == 0 {
         return TAKEN;
     }
-    lists_loaded(&mut image[TABLE..SIZE], stored)
-}
-
-// Loads the lists of a table from their record.
-fn lists_loaded(table: &mut [u8], stored: &[u8]) -> u64
-    ensures { (result ≡ (load_taken table.old stored.now).returned)
-        × (table.new ≡ (load_taken table.old stored.now).image) }
-{
-    if let Err(cause) = table::load(table, stored) {
-        return codes::refusal(cause);
+    match table::load(&mut image[TABLE..SIZE], stored) {
+        Ok(()) => TAKEN,
+        Err(cause) => codes::refusal(cause),
     }
-    TAKEN
 }
 
 // Empties the lists.
+#[tactic(auto, unfolding(crate::specs::Calls::lists_reset, model::specs::Handler::reset_lists, model::specs::Store::factory_reset, model::specs::Codes::returned, model::specs::Bytes::number))]
 pub fn reset_lists(image: &mut [u8]) -> u64
-    ensures { (result ≡ (reset_lists image.old).returned) × (image.new ≡ (reset_lists image.old).image) }
+    ensures { let reset = reset_lists image.old in (result ≡ reset.returned) × (image.new ≡ reset.image) }
 {
     if !is_image(image) {
         return codes::refusal(Refusal::BadLimits);

@@ -1,31 +1,16 @@
 // A new image.
 ghost use Rattle.std.specs.Prelude.{◌≡◌};
 ghost use Rattle.commands.specs.Calls.{new};
-ghost use Rattle.commands.specs.Taken.{limits_asked};
 
 use crate::codes;
-use image::codes::TAKEN;
-use image::parts::Limits;
+use image::asked::given;
+use image::parts::put_new;
 use image::place::SIZE;
-use model::Refusal;
-
-// The limits of the list store that is asked for, where it can have them; they count only where there is to be one.
-fn limits(there: bool, zone_limit: usize, window_limit: usize) -> Result<Option<Limits>, Refusal>
-    ensures { result ≡ limits_asked there zone_limit window_limit }
-{
-    if !there {
-        return Ok(None);
-    }
-    if !table::allowed(zone_limit, window_limit) {
-        return Err(Refusal::BadLimits);
-    }
-    Ok(Some(Limits {
-        zones: zone_limit as u8,
-        windows: window_limit as u8,
-    }))
-}
+use model::{Refusal, TAKEN};
+use table::Limits;
 
 // Makes a new image: with a list store of these limits where the mark is not 0, else without one.
+#[tactic(auto, unfolding(crate::specs::Calls::new, model::specs::Codes::returned, model::specs::Bytes::number))]
 pub fn new(
     image: &mut [u8],
     list_store: u8,
@@ -34,16 +19,12 @@ pub fn new(
     build: u64,
     period: u64,
 ) -> u64
-    ensures { (result ≡ (new image.old list_store zone_limit window_limit build period).returned)
-        × (image.new ≡ (new image.old list_store zone_limit window_limit build period).image) }
+    ensures { let made = new image.old list_store zone_limit window_limit build period in (result ≡ made.returned) × (image.new ≡ made.image) }
 {
-    let limits = match limits(list_store != 0, zone_limit, window_limit) {
-        Ok(limits) => limits,
-        Err(cause) => return codes::refusal(cause),
-    };
-    if image.len() < SIZE {
+    let limits = Limits::of(zone_limit, window_limit);
+    if list_store != 0 && limits.is_none() || image.len() < SIZE {
         return codes::refusal(Refusal::BadLimits);
     }
-    image::parts::put_new(image, limits, build, period);
+    put_new(image, given(list_store, limits).flatten(), build, period);
     TAKEN
 }

@@ -1,19 +1,40 @@
 -- `lists::load_lists` meets its contract.
-use Rattle.std.proofs.Common.{sym, ap, ◌∙◌, arith, length}
-use borrow.Author.Tests.{eq-eqb, ne_eqb}
+use Rattle.std.proofs.Common.{true, false, List, ◌≡◌, ℕ, Option, None, Some, sym, refl, ◌∙◌, arith, eq-eqb, ne_eqb}
+use Rattle.model.specs.Bytes.{number}
+use Rattle.model.specs.Answers.{number_of}
+use Rattle.model.specs.Codes.{returned}
+use Rattle.model.specs.Rules as R
+use Rattle.model.specs.History.{verdict}
+use Rattle.model.specs.Store as M
+use Rattle.model.specs.Handler as H
+use Rattle.rules.specs.Verdicts.{verdict_of}
+use Rattle.table.specs.Layout.{store_in}
+use Rattle.table.specs.Left.{load_said, load_left}
 use Rattle.table.proofs.Follows.{lengths_stay}
-use Rattle.image.specs.Layout.{table_in}
+use Rattle.image.specs.Layout.{is_image, table_in}
+use Rattle.image.specs.Parts.{has_lists}
 use Rattle.image.specs.Asked.{given}
-use Rattle.image.proofs.Outside.{image_is}
-use Rattle.image.proofs.Alone.{table_long}
-use Rattle.commands.proofs.Told.{load_no_image, load_no_store, load_no_record, load_there, table_put}
+use Rattle.commands.specs.Calls.{lists_loaded, load_lists, returned_by}
+use Rattle.commands.proofs.Told.{image_long, table_put}
+use Rattle.commands.proofs.Verdicts.{load_told}
 use Rattle.commands.proofs.lists.load_lists.Goals as goal
 use Rattle.commands.proofs.lists.load_lists.Goals.{then-not-has_lists-via-then-not-has_lists, then-not-has_lists-via-else-not-has_lists+then-there-eq0}
 
-pub returns-then-not-is_image : goal.returns-then-not-is_image
-returns-then-not-is_image c =
-    let a = c.args in
-    load_no_image a.image.now (sym c.if-not-is_image.ensures) (given a.there a.stored.now) _ c.refusal.ensures
+module _ (s : List ℕ) (i : is_image s ≡ true) where
+  no_store : has_lists s ≡ false → (stored : Option (List ℕ)) → (0 ≡ (load_lists s stored).returned) × (s ≡ (load_lists s stored).image)
+  unfolding lists_loaded H.load_lists returned number
+  no_store h None = rw (i, h) (refl, refl)
+  no_store h (Some b) = rw (i, h) (refl, refl)
+
+  module _ (h : has_lists s ≡ true) where
+    no_record : (0 ≡ (load_lists s None).returned) × (s ≡ (load_lists s None).image)
+    unfolding lists_loaded H.load_lists M.load verdict returned number
+    no_record = rw (i, h) (refl, refl)
+
+    loaded : (b : List ℕ) (v : R.Verdict) → load_said (table_in s) b ≡ verdict_of v
+        → returned (number_of (M.store_loaded (store_in (table_in s)) (Some b) v).answer) (M.store_loaded (store_in (table_in s)) (Some b) v).effects ≡ returned_by (lists_loaded s (Some b))
+    unfolding lists_loaded H.load_lists
+    loaded b v e = rw (i, h, load_told (table_in s) b v e)
 
 pub returns-then-not-has_lists : goal.returns-then-not-has_lists
 returns-then-not-has_lists c =
@@ -21,20 +42,28 @@ returns-then-not-has_lists c =
     let s = a.image.now in
     let i = sym c.if-not-is_image.ensures in
     elim c.then-not-has_lists.branch [
-      | then-not-has_lists-via-then-not-has_lists w ↦ load_no_store s i (sym w.if-not-has_lists.ensures) (given a.there a.stored.now)
-      | then-not-has_lists-via-else-not-has_lists+then-there-eq0 w ↦ rw (eq-eqb a.there 0 w.if-there-eq0.true) (load_no_record s i (sym w.if-not-has_lists.ensures))
+      | then-not-has_lists-via-then-not-has_lists w ↦ no_store s i (sym w.if-not-has_lists.ensures) (given a.there a.stored.now)
+      | then-not-has_lists-via-else-not-has_lists+then-there-eq0 w ↦ rw (eq-eqb a.there 0 w.if-there-eq0.true) (no_record s i (sym w.if-not-has_lists.ensures))
     ]
 
-pub slice_bounds-lists_loaded-end : goal.slice_bounds-lists_loaded-end
-slice_bounds-lists_loaded-end c = omega (arith, (image_is c.args.image.now (sym c.if-not-is_image.ensures)).size)
+pub slice_bounds-load-end : goal.slice_bounds-load-end
+slice_bounds-load-end c = omega (arith, image_long c.args.image.now (sym c.if-not-is_image.ensures))
 
-pub returns : goal.returns
-returns c =
-    let a = c.args in
-    let s = a.image.now in
-    let b = a.stored.now in
-    let q = c.lists_loaded.ensures in
+pub returns-in-Ok : goal.returns-in-Ok
+unfolding returned number
+returns-in-Ok c =
+    let s = c.args.image.now in
+    let b = c.args.stored.now in
     let i = sym c.if-not-is_image.ensures in
-    let p = load_there s i (sym c.if-not-has_lists.ensures) b _ _ q.0 q.1 in
-    let l = ap length q.1 ∙ (lengths_stay (table_in s) b 0).load ∙ table_long s i in
-    rw (ne_eqb a.there 0 c.if-there-eq0.false) (p.0, table_put s _ i l ∙ p.1)
+    let h = sym c.if-not-has_lists.ensures in
+    rw (ne_eqb c.args.there 0 c.if-there-eq0.false, c.load.ensures.1)
+    (loaded s i h b R.accepted (sym c.load.ensures.0 ∙ c.in-Ok.is), table_put s (load_left (table_in s) b) i h (lengths_stay (table_in s) b 0).load)
+
+pub returns-in-Err : goal.returns-in-Err
+returns-in-Err c =
+    let s = c.args.image.now in
+    let b = c.args.stored.now in
+    let i = sym c.if-not-is_image.ensures in
+    let h = sym c.if-not-has_lists.ensures in
+    rw (ne_eqb c.args.there 0 c.if-there-eq0.false, c.load.ensures.1)
+    (c.refusal-in-Err.ensures ∙ loaded s i h b (R.turned_down c.in-Err.cause) (sym c.load.ensures.0 ∙ c.in-Err.is), table_put s (load_left (table_in s) b) i h (lengths_stay (table_in s) b 0).load)

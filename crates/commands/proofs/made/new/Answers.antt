@@ -1,19 +1,28 @@
 -- `made::new` meets its contract.
-use Rattle.std.proofs.Common.{sym}
-use Rattle.commands.proofs.Says.{new_refused, new_short, new_made}
+use Rattle.std.proofs.Common.{not, sym, refl, ap, ◌∙◌, length, le-leb, eq-eqb, ne_eqb}
+use Rattle.std.proofs.lemmas.Bool.{false≢true}
+use Rattle.model.specs.Rules.{allowed}
+use Rattle.model.proofs.Facts.{by_test}
+use Rattle.image.specs.Layout.{image_size}
+use Rattle.image.specs.Parts.{new_bytes, new_image}
+use Rattle.commands.specs.Calls.{new}
 use Rattle.commands.proofs.made.new.Goals as goal
-
-pub returns-in-Err : goal.returns-in-Err
-returns-in-Err c =
-    let a = c.args in
-    new_refused a.image.now a.zone_limit a.window_limit a.build a.period a.list_store c.in-Err.cause (sym c.in-Err.ensures) _ c.refusal.ensures
-
-pub returns-then-image-lt-SIZE : goal.returns-then-image-lt-SIZE
-returns-then-image-lt-SIZE c =
-    let a = c.args in
-    new_short a.image.now a.zone_limit a.window_limit a.build a.period a.list_store c.in-Ok.limits (sym c.in-Ok.ensures) c.if-image-lt-SIZE.true _ c.refusal-then-image-lt-SIZE.ensures
+use Rattle.commands.proofs.made.new.Goals.{then-list_store-ne0, else-list_store-ne0}
 
 pub returns : goal.returns
+unfolding new new_image new_bytes
 returns c =
     let a = c.args in
-    new_made a.image.now a.zone_limit a.window_limit a.build a.period a.list_store c.in-Ok.limits (sym c.in-Ok.ensures) c.if-image-lt-SIZE.false _ c.put_new.ensures
+    let long = le-leb image_size (length a.image.now) c.if-image-lt-SIZE.false in
+    elim c.if-list_store-ne0.branch [
+      | then-list_store-ne0 w ↦
+          let there = ne_eqb a.list_store 0 w.if-list_store-ne0.true in
+          by_test (allowed (record { zone_limit = a.zone_limit; window_limit = a.window_limit }))
+          (λ fit. rw (there, fit, long) (refl, rw (c.put_new.ensures, c.flatten.ensures, c.given.ensures, there, c.of-limits.ensures, fit)))
+          (λ unfit.
+          let z = rw (c.of-limits.ensures, unfit) at w.is_none.ensures in
+          absurd (false≢true (z ∙ ap not (sym w.value-is ∙ c.if-is_none.false))))
+      | else-list_store-ne0 w ↦
+          let none = eq-eqb a.list_store 0 w.if-list_store-ne0.false in
+          rw (none, long) (refl, rw (c.put_new.ensures, c.flatten.ensures, c.given.ensures, none))
+    ]
