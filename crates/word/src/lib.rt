@@ -32,12 +32,11 @@ fn array_at<const N: usize>(s: &[u8], at: usize) -> Option<[u8; N]>
 fn put_bytes(out: &mut [u8], at: usize, part: &[u8]) -> bool
     ensures { (result ≡ fits_at out.old at (length part.now)) × (out.new ≡ placed out.old at part.now) }
 {
-    let n = part.len();
-    if in_bounds(out, at, n) {
-        out[at..at + n].copy_from_slice(part);
-        return true;
+    let fits = in_bounds(out, at, part.len());
+    if fits {
+        out[at..at + part.len()].copy_from_slice(part);
     }
-    false
+    fits
 }
 
 // Writes words one after another, each by value: one load and one store (copied from behind its reference, a record takes four times the
@@ -80,12 +79,11 @@ fn put_over(out: &mut [u8], part: &[u8])
 pub fn put(out: &mut [u8], at: usize, part: &[u8]) -> bool
     ensures { (result ≡ fits_at out.old at (length part.now)) × (out.new ≡ placed out.old at part.now) }
 {
-    let n = part.len();
-    if in_bounds(out, at, n) {
-        put_over(&mut out[at..at + n], part);
-        return true;
+    let fits = in_bounds(out, at, part.len());
+    if fits {
+        put_over(&mut out[at..at + part.len()], part);
     }
-    false
+    fits
 }
 
 // Copies n bytes of s from `from` on to `at`, where both slices have so many; else nothing.
@@ -164,9 +162,9 @@ fn put_numbers(out: &mut [u8], numbers: &[u64])
 pub fn put_u64s(out: &mut [u8], numbers: &[u64]) -> bool
     ensures { (result ≡ fits_at out.old 0 (8 * length numbers.now)) × (out.new ≡ placed out.old 0 (all_bytes (λ m. bytes 8 m) numbers.now)) }
 {
-    if in_bounds(out, 0, WORD * numbers.len()) {
+    let fits = in_bounds(out, 0, WORD * numbers.len());
+    if fits {
         put_numbers(out, numbers);
-        return true;
     }
-    false
+    fits
 }
