@@ -1,6 +1,5 @@
 pub mod Laws
 pub mod Rows
-pub mod Spelling
 pub mod Endian
 pub mod Parts
 pub mod Places

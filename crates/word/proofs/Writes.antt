@@ -6,9 +6,9 @@ use Rattle.std.proofs.Common.{cond, leb, leb-true, leb-false, le-ltb, lt-ltb}
 use Rattle.model.specs.Output.{too_short, copied_over}
 use Rattle.model.proofs.Facts.{by_test}
 use Rattle.model.proofs.Words.{length_bytes}
-use Rattle.word.specs.Place.{fits_at, put, placed, copied}
+use Rattle.word.specs.Place.{fits_at, put, placed}
 use Rattle.word.proofs.Laws.{length_put, put_put, put_one}
-use Rattle.word.proofs.Places.{placed_there, copied_there}
+use Rattle.word.proofs.Places.{placed_there}
 
 -- bytes that do not fit are not put anywhere
 pub placed_short : (s : List ℕ) (at : ℕ) (bs : List ℕ) → fits_at s at (length bs) ≡ false → placed s at bs ≡ s
@@ -103,7 +103,3 @@ placed_front s bs =
     by_test (leb (0 + length bs) (length s))
     (λ l. rw (l, le-ltb (length s) (length bs) (omega (arith, leb-true (0 + length bs) (length s) l))) (put_front s bs))
     (λ l. rw (l, lt-ltb (length s) (length bs) (omega (arith, leb-false (0 + length bs) (length s) l))))
-
--- a part that has room is copied over the front
-pub copied_front : (s t : List ℕ) (from n : ℕ) (bs : List ℕ) → from + n ≤ length t → n ≤ length s → take n (drop from t) ≡ bs → copied s 0 t from n ≡ copied_over bs s
-copied_front s t from n bs h k e = copied_there s 0 t from n h (omega arith) ∙ ap (put s 0) e ∙ put_front s bs

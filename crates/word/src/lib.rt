@@ -3,12 +3,11 @@
 #![tactic(auto)]
 
 pub mod or_zero;
-pub mod spelled;
 pub mod text;
 
 ghost use Rattle.std.specs.Prelude.{◌≡◌, ◌+◌, ◌*◌, ◌≤◌, length, take, drop};
 ghost use Rattle.model.specs.Bytes.{bytes, all_bytes, bits_of};
-ghost use Rattle.word.specs.Place.{fits_at, part_at, number_at, signed_at, put, placed, copied};
+ghost use Rattle.word.specs.Place.{fits_at, part_at, number_at, signed_at, put, placed};
 
 // How many bytes a 64-bit number has.
 pub const WORD: usize = 8;
@@ -84,16 +83,6 @@ pub fn put(out: &mut [u8], at: usize, part: &[u8]) -> bool
         put_over(&mut out[at..at + part.len()], part);
     }
     fits
-}
-
-// Copies n bytes of s from `from` on to `at`, where both slices have so many; else nothing.
-#[tactic(auto, using(crate::proofs::Places::copied_placed), unfolding(crate::specs::Place::copied))]
-pub fn copy(out: &mut [u8], at: usize, s: &[u8], from: usize, n: usize)
-    ensures { out.new ≡ copied out.old at s.now from n }
-{
-    if in_bounds(s, from, n) {
-        put(out, at, &s[from..from + n]);
-    }
 }
 
 // The 64-bit number at `at`.
