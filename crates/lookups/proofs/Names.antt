@@ -1,9 +1,8 @@
 -- A name that is shown stands inside the table.
-use Rattle.std.proofs.Common.{◌≡◌, ℕ, ◌+◌, ◌<◌, leb, ltb, eqb, ◌&&◌, List, Option, IfSome, ltb-true, arith, None, Some}
+use Rattle.std.proofs.Common.{ℕ, ◌+◌, ◌<◌, leb, ltb, eqb, ◌&&◌, List, Option, IfSome, ltb-true, arith, None, Some}
 use Rattle.model.proofs.Facts.{by_test}
 use Rattle.table.specs.Layout.{mark_at, zone_count_place, zone_place, zone_at, zone_count}
 use Rattle.table.proofs.Counts.{count_most, zone_stands}
-use Rattle.lookups.specs.declared.ZoneShown.{ZoneShown}
 use Rattle.lookups.specs.Shown.{shown_at, shown_by, active_index, zone_listed_in}
 use Rattle.lookups.specs.Laws.{EndsInside, NameInPlace}
 use Rattle.lookups.proofs.Entries.{last_below}
@@ -29,10 +28,3 @@ module _ (s : List ℕ) where
 
 pub name_in_place : NameInPlace
 name_in_place s = (active_inside s, listed_inside s)
-
--- the same of an answer that is known to be what is shown
-pub active_name : (s : List ℕ) (now : ℕ) (z : ZoneShown) → z ≡ shown_by s (active_index s now) → EndsInside z
-active_name s now z e = rw e (active_inside s now)
-
-pub listed_name : (s : List ℕ) (i : ℕ) (r : Option ZoneShown) → r ≡ zone_listed_in s i → IfSome r EndsInside
-listed_name s i r e = rw e (listed_inside s i)

@@ -1,7 +1,7 @@
 -- What is read of an image, out of its table, or the refusal. The checks of the readings rewrite by these.
 use Rattle.std.specs.Prelude.{option_copied}
 use Rattle.std.specs.Result.{result_ok}
-use Rattle.std.proofs.Common.{◌≡◌, ℕ, ◌≤◌, max, List, [], ◌∷◌, length, Option, None, Some, Result, Ok, Err, Bor, true, MatchResult, option_map, refl, sym, ap, ◌∙◌, arith}
+use Rattle.std.proofs.Common.{◌≡◌, ℕ, max, List, [], ◌∷◌, length, Option, None, Some, Result, Ok, Err, Bor, true, MatchResult, option_map, refl, sym, ap, ◌∙◌, arith}
 use Rattle.model.specs.declared.Refusal.{Refusal}
 use Rattle.model.specs.declared.Refusal.TheVariants.{AttributeNotFound, ConstraintError}
 use Rattle.model.specs.Answers.{Answer, refused, answers}
@@ -13,7 +13,7 @@ use Rattle.model.specs.Walk.{walk}
 use Rattle.model.specs.Store.{Store, record_of}
 use Rattle.model.specs.Handler as H
 use Rattle.model.proofs.Facts.{by_test}
-use Rattle.table.specs.Layout.{table_size, zone_at, window_at, zone_place, window_place, zone_count, window_count, zones_in, windows_in, lists_in, store_in}
+use Rattle.table.specs.Layout.{zone_at, window_at, zone_place, window_place, zone_count, window_count, zones_in, windows_in, lists_in, store_in}
 use Rattle.table.proofs.Sections.{length_entries}
 use Rattle.lookups.proofs.Views.{active_shown, zone_listed_lem, window_listed_lem}
 use Rattle.lookups.specs.Shown.{shown_by, active_index, zone_listed_in, window_listed_in}
@@ -23,21 +23,8 @@ use Rattle.lookups.specs.declared.DSTOffsetEntry.{DSTOffsetEntry}
 use Rattle.image.specs.Layout.{is_image, table_in}
 use Rattle.image.specs.Parts.{has_lists, clock_in, device_in}
 use Rattle.image.specs.Asked.{asked}
-use Rattle.image.proofs.Alone.{table_long}
 use Rattle.local_time.specs.Meaning.{local_time_of}
 use Rattle.readings.specs.There.{table_read, told}
-
--- where there is a table it has all its bytes
-pub table_sized : (s t : List ℕ) → table_read s ≡ answers t → table_size ≤ length t
-unfolding table_read
-table_sized s t e =
-    by_test (is_image s)
-    (λ i.
-    let n = table_long s i in
-    by_test (has_lists s)
-    (λ m. let q : answers (table_in s) ≡ answers t = rw (i, m) at e in let p : table_in s ≡ t = cc in omega (arith, ap length p))
-    (λ m. let q = rw (i, m) at e in cc))
-    (λ i. let q = rw i at e in cc)
 
 module _ {A : Type 0} where
   -- what is read in a table, or the refusal

@@ -1,6 +1,5 @@
 -- A run of writes, one after another from a place on.
 use Rattle.std.proofs.Common.{false, List, [], ◌∷◌, ◌++◌, append_assoc, append-nil, ◌≡◌, refl, sym, ap, ◌∙◌, ℕ, zero, suc, ◌+◌, ◌*◌, ◌-◌, ◌≤◌, ◌<◌, add-zero, add-one, arith, length, take, drop, set, get_or, replicate, length-append, take-append-drop, take-suc}
-use Rattle.std.proofs.Math.ListN.{length-replicate}
 use Rattle.model.specs.Bytes.{bytes, all_bytes}
 use Rattle.std.proofs.Common.{cond, leb, leb-true, leb-false, le-ltb, lt-ltb}
 use Rattle.model.specs.Output.{too_short, copied_over}
@@ -18,9 +17,6 @@ placed_short s at bs h = rw h
 -- `n` zeros
 abbrev pub zeros : ℕ → List ℕ
 zeros n = replicate n 0
-
-pub length_zeros : (n : ℕ) → length (zeros n) ≡ n
-length_zeros n = length-replicate {A = ℕ} n 0
 
 pub drop_zeros : (k n : ℕ) → drop k (zeros n) ≡ zeros (n - k)
 drop_zeros zero n = let e : n - 0 ≡ n = omega arith in ap zeros (sym e)
