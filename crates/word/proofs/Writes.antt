@@ -1,7 +1,6 @@
 -- A run of writes, one after another from a place on.
-use Rattle.std.proofs.Common.{false, List, [], ◌∷◌, ◌++◌, append_assoc, append-nil, ◌≡◌, refl, sym, ap, ◌∙◌, ℕ, zero, suc, ◌+◌, ◌*◌, ◌-◌, ◌≤◌, ◌<◌, add-zero, add-one, arith, length, take, drop, set, get_or, replicate, length-append, take-append-drop, take-suc}
+use Rattle.std.proofs.Common.{false, cond, leb, leb-true, leb-false, le-ltb, lt-ltb, List, [], ◌∷◌, ◌++◌, append_assoc, append-nil, ◌≡◌, refl, sym, ap, ◌∙◌, ℕ, zero, suc, ◌+◌, ◌*◌, ◌-◌, ◌≤◌, ◌<◌, add-zero, add-one, arith, length, take, drop, set, get_or, replicate, length-append, take-append-drop, take-suc}
 use Rattle.model.specs.Bytes.{bytes, all_bytes}
-use Rattle.std.proofs.Common.{cond, leb, leb-true, leb-false, le-ltb, lt-ltb}
 use Rattle.model.specs.Output.{too_short, copied_over}
 use Rattle.model.proofs.Facts.{by_test}
 use Rattle.model.proofs.Words.{length_bytes}
@@ -13,15 +12,6 @@ use Rattle.word.proofs.Places.{placed_there}
 pub placed_short : (s : List ℕ) (at : ℕ) (bs : List ℕ) → fits_at s at (length bs) ≡ false → placed s at bs ≡ s
 unfolding placed
 placed_short s at bs h = rw h
-
--- `n` zeros
-abbrev pub zeros : ℕ → List ℕ
-zeros n = replicate n 0
-
-pub drop_zeros : (k n : ℕ) → drop k (zeros n) ≡ zeros (n - k)
-drop_zeros zero n = let e : n - 0 ≡ n = omega arith in ap zeros (sym e)
-drop_zeros (suc k) zero = let e : 0 - suc k ≡ 0 = omega arith in ap zeros (sym e)
-drop_zeros (suc k) (suc n) = let e : n - k ≡ suc n - suc k = omega arith in drop_zeros k n ∙ ap zeros e
 
 -- `out` is `s` with the bytes `xs` from `at` on
 pub record Wrote (s : List ℕ) (at : ℕ) (xs out : List ℕ) : Type 0 where

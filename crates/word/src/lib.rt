@@ -5,7 +5,7 @@
 pub mod or_zero;
 pub mod text;
 
-ghost use Rattle.std.specs.Prelude.{◌≡◌, ◌+◌, ◌*◌, ◌≤◌, length, take, drop};
+ghost use Rattle.std.specs.Prelude.{◌≡◌, ◌*◌, ◌≤◌, length};
 ghost use Rattle.model.specs.Bytes.{bytes, all_bytes, bits_of};
 ghost use Rattle.word.specs.Place.{fits_at, part_at, number_at, signed_at, put, placed};
 
@@ -38,9 +38,9 @@ fn put_bytes(out: &mut [u8], at: usize, part: &[u8]) -> bool
     fits
 }
 
-// Writes words one after another, each by value: one load and one store (copied from behind its reference, a record takes four times the
-// instructions). Here and below the place comes from `enumerate`: zipped with `chunks_exact_mut` or `iter_mut` the proof doesn't close,
-// since std says nothing of what the slice ends as.
+// Writes words one after another, each by value: from behind its reference (tried) the compiler moves one at a time, and a record takes four
+// times the instructions. Here and below the place comes from `enumerate`: zipped with `chunks_exact_mut` or `iter_mut` (tried) the proof
+// doesn't close, since std says nothing of what the slice ends as.
 fn put_words(out: &mut [u8], words: &[[u8; WORD]])
     requires { length out.old ≡ 8 * length words.now }
     ensures { out.new ≡ all_bytes (λ w. w) words.now }
