@@ -1,68 +1,89 @@
--- What a command on the lists answers, leaves and stores, by what the image and its table say of the request.
-use Rattle.std.proofs.Common.{Bool, true, false, cond, List, [], ◌≡◌, ℕ, Option, None, Some, Ok, Err, ok_or, IsErrAnd, length, refl, sym}
+-- What a command on the lists returns, leaves and stores, by what the image and its table say of the request.
+use Rattle.std.proofs.Common.{Bool, true, false, cond, List, [], ◌≡◌, ℕ, Ok, Err, length, refl, sym}
 use Rattle.std.specs.Prelude.{Result as StdResult}
-use borrow.Rule.Slice.PartMut.{put_mid}
+use Rattle.std.specs.Result.{result_and}
 use Rattle.model.specs.declared.Refusal.{Refusal}
-use Rattle.model.specs.declared.Refusal.TheVariants.{NoSpace}
+use Rattle.model.specs.declared.Refusal.TheVariants.{CommandNotFound, BadLimits}
+use Rattle.model.specs.Numbers.{refusal_number}
 use Rattle.model.specs.Basics.{when}
 use Rattle.model.specs.Answers.{Effect, wake_timer, Result}
-use Rattle.model.specs.Output.{too_short, copied_over, stores}
+use Rattle.model.specs.Codes.{returned}
+use Rattle.model.specs.Output.{copied_over, stores}
+use Rattle.model.specs.RoundTrip.{AreBytes}
 use Rattle.model.specs.Store as M
 use Rattle.model.specs.Store.{Store}
 use Rattle.model.specs.Handler.{Device, of_store}
-use Rattle.table.specs.Layout.{table_size, store_in}
-use Rattle.image.specs.Layout.{table_place, table_in}
-use Rattle.image.specs.Parts.{device_in}
-use Rattle.commands.specs.Calls.{table_left}
-use Rattle.commands.specs.Taken.{check_lists, AnswersBy, record_left}
-use Rattle.commands.proofs.Told.{roomy_in, checked, commanded, not_taken_up, not_taken_left, taken_up, table_put}
-use Rattle.commands.proofs.Verdicts.{has_room, Tells}
+use Rattle.model.proofs.Facts.{by_test}
+use Rattle.table.specs.Layout.{store_in}
+use Rattle.table.specs.Left.{empties, time_zone_said, time_zone_left, dst_offset_said, dst_offset_left}
+use Rattle.image.specs.Layout.{is_image, table_in}
+use Rattle.image.specs.Parts.{device_in, has_lists}
+use Rattle.image.specs.Asked.{record_stored}
+use Rattle.commands.specs.Calls.{returned_by, table_left}
+use Rattle.commands.specs.Taken.{check_lists, StoresRecord, Stores}
+use Rattle.commands.proofs.Told.{roomy_in, commanded, not_taken_up, taken_up, table_there}
+use Rattle.commands.proofs.Verdicts.{has_room, Tells, zones_effects, zones_tell, windows_effects, windows_refused, windows_tell}
 
--- what the record of a table leaves of a slice, where it has room
-module _ (t out : List ℕ) where
-  abbrev short : Bool
-  short = too_short (length out) (M.record_of (store_in t))
+-- the effects of a command that is taken and of a refusal; that of a command that is not taken up has none
+pub record Effects (taken : List Effect) (turned_down : Refusal → List Effect) : Type 0 where
+  pub stored : stores taken ≡ true
+  pub not_stored : (cause : Refusal) → stores (turned_down cause) ≡ false
+  pub no_image : turned_down BadLimits ≡ []
+  pub no_lists : turned_down CommandNotFound ≡ []
 
-  abbrev pub Put : Option ℕ → List ℕ → Type 0
-  Put n o = (n ≡ cond short None (Some (length (M.record_of (store_in t))))) × (o ≡ cond short out (copied_over (M.record_of (store_in t)) out))
+module _ {A : Type 0} (s left out : List ℕ) (used : ℕ) (call : Store → Result Store A) (taken : List Effect) (turned_down : Refusal → List Effect) where
+  abbrev r : Result Device A
+  r = commanded s call (length out)
+
+  -- what is returned and left, by the answer
+  abbrev pub Ends : StdResult ℕ Refusal → List ℕ → List ℕ → Type 0
+  Ends (Ok n) t o =
+      (returned 0 taken ≡ returned_by r) × (t ≡ table_left s left) × (o ≡ copied_over (record_stored r) out) × (n ≡ cond (stores r.effects) (length (record_stored r)) used)
+  Ends (Err cause) t o =
+      (returned (refusal_number cause) (turned_down cause) ≡ returned_by r) × (t ≡ table_left s left) × (o ≡ copied_over (record_stored r) out)
+      × (used ≡ cond (stores r.effects) (length (record_stored r)) used)
+
+  module _ (f : Effects taken turned_down) {v : StdResult (Unit {0}) Refusal} (w : Ok tt ≡ check_lists s → Tells (table_in s) (length out) call taken turned_down v left)
+      (result : StdResult ℕ Refusal) (t o : List ℕ) (g : t ≡ table_left s left) where
+    not_taken : (cause : Refusal) → Err cause ≡ check_lists s → turned_down cause ≡ [] → StoresRecord left out (Err cause) result o → Ends result t o
+    unfolding stores
+    not_taken cause e k p = rw (p.0, p.1, k, not_taken_up s call (length out) cause e) (refl, g, refl, refl)
+
+    there : is_image s ≡ true → has_lists s ≡ true → (k : StdResult (Unit {0}) Refusal) → v ≡ k → StoresRecord left out k result o → Ends result t o
+    there i h (Err cause) m p =
+        let q = (w (rw (i, h))).refused cause m in
+        rw (p.0, p.1, taken_up s call (length out) i h, q.answer, q.asks, f.not_stored cause) (refl, g, refl, refl)
+    there i h (Ok tt) m p =
+        let x = w (rw (i, h)) in
+        let q = x.accepted m in
+        let room = rw (q.asks, f.stored) at (has_room (length out) (store_in (table_in s)) (call (store_in (table_in s))) q.value q.answer) in
+        rw (p.0, p.1, x.follows, room, taken_up s call (length out) i h, q.answer, q.asks, f.stored) (refl, g, refl, refl)
+
+    pub ends : StoresRecord left out (result_and (check_lists s) v) result o → Ends result t o
+    ends p =
+        by_test (is_image s)
+        (λ i.
+        by_test (has_lists s) (λ h. let q = rw (i, h) at p in there i h v refl q)
+        (λ h. let q = rw (i, h) at p in not_taken CommandNotFound (rw (i, h)) f.no_lists q))
+        (λ i. let q = rw i at p in not_taken BadLimits (rw i) f.no_image q)
 
 -- a wake stores nothing
-pub woken : (b : Bool) → stores (when b wake_timer) ≡ false
+woken : (b : Bool) → stores (when b wake_timer) ≡ false
 unfolding stores
 woken true = refl
 woken false = refl
 
-module _ {A : Type 0} (s left out : List ℕ) (call : Store → Result Store A) (taken : List Effect) (turned_down : Refusal → List Effect) where
-  abbrev r : Result Device A
-  r = commanded s call (length out)
-
-  abbrev pub Answered : StdResult ℕ Refusal → List ℕ → List ℕ → Type 0
-  Answered said t o = AnswersBy taken turned_down r said × (t ≡ table_left s left) × (o ≡ record_left r out)
-
-  -- before the request is read
-  pub not_taken : (said : StdResult ℕ Refusal) (cause : Refusal) → IsErrAnd said (λ x. x ≡ cause) → Err cause ≡ check_lists s → [] ≡ turned_down cause → Answered said s out
+module _ (s b out : List ℕ) (used : ℕ) (c : AreBytes b) (result : StdResult ℕ Refusal) (t o : List ℕ) where
+  pub zones_end : Stores (λ u n. time_zone_said u b n) (λ u n. time_zone_left u b n) s out result t o
+      → Ends s (time_zone_left (table_in s) b (length out)) out used (λ x. M.set_time_zone x b) zones_effects (λ cause. []) result t o
   unfolding stores
-  not_taken (Ok n) cause f e k = elim f [ ]
-  not_taken (Err x) cause f e k = rw (f, not_taken_up s call (length out) cause e) ((refl, k), sym (not_taken_left s left cause e), refl)
+  zones_end k =
+      ends s (time_zone_left (table_in s) b (length out)) out used (λ x. M.set_time_zone x b) zones_effects (λ cause. [])
+      (record { stored = refl; not_stored = λ cause. refl; no_image = refl; no_lists = refl }) (λ e. zones_tell (table_in s) b (length out) (table_there s e) c) result t o k.0 k.1
 
-module _ {A : Type 0} (s out : List ℕ) {left : List ℕ} {call : Store → Result Store A} {taken : List Effect} {turned_down : Refusal → List Effect} {v : StdResult (Unit {0}) Refusal}
-    (e : Ok tt ≡ check_lists s) (w : Tells (table_in s) (length out) call taken turned_down v left) {u : List ℕ} (g : u ≡ left) where
-  by_store : commanded s call (length out) ≡ of_store (device_in s) (roomy_in (length out) (store_in (table_in s)) (call (store_in (table_in s))))
-  by_store = let i = checked s e in taken_up s call (length out) i.0 i.1
-
-  put_left : put_mid table_place table_size s u ≡ table_left s left
-  put_left = let i = checked s e in rw g (table_put s left i.0 i.1 w.long)
-
-  -- a request that the table turns down
-  pub turned_down_lem : (cause : Refusal) → v ≡ Err cause → stores (turned_down cause) ≡ false → (said : StdResult ℕ Refusal) → IsErrAnd said (λ x. x ≡ cause)
-      → Answered s left out call taken turned_down said (put_mid table_place table_size s u) out
-  turned_down_lem cause f k (Ok n) m = elim m [ ]
-  turned_down_lem cause f k (Err x) m = let q = w.refused cause f in rw (m, by_store, q.answer, q.asks, k) ((refl, refl), put_left, refl)
-
-  -- a request that is taken
-  pub taken_lem : v ≡ Ok tt → stores taken ≡ true → (n : Option ℕ) (o : List ℕ) → Put u out n o → (said : StdResult ℕ Refusal) → said ≡ ok_or n NoSpace
-      → Answered s left out call taken turned_down said (put_mid table_place table_size s u) o
-  taken_lem f k n o p said m =
-      let q = w.accepted f in
-      let room = rw (q.asks, k) at (has_room (length out) (store_in (table_in s)) (call (store_in (table_in s))) q.value q.answer) in
-      rw (put_left, m, p.0, p.1, g, w.follows, room, by_store, q.answer, q.asks, k) ((refl, refl, refl), refl, refl)
+  pub windows_end : Stores (λ u n. dst_offset_said u b n) (λ u n. dst_offset_left u b n) s out result t o
+      → Ends s (dst_offset_left (table_in s) b (length out)) out used (λ x. M.set_dst_offset x b) windows_effects windows_refused result t o
+  unfolding stores
+  windows_end k =
+      ends s (dst_offset_left (table_in s) b (length out)) out used (λ x. M.set_dst_offset x b) windows_effects windows_refused
+      (record { stored = refl; not_stored = λ cause. woken (empties cause); no_image = refl; no_lists = refl }) (λ e. windows_tell (table_in s) b (length out) (table_there s e) c) result t o k.0 k.1

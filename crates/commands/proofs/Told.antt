@@ -55,11 +55,11 @@ module _ (s left : List ℕ) where
   left_no_image i = rw i
 
   -- a table that is written in its place
-  pub table_put : is_image s ≡ true → has_lists s ≡ true → length left ≡ length (table_in s) → put_mid table_place table_size s left ≡ table_left s left
+  pub table_put : is_image s ≡ true → length left ≡ length (table_in s) → put_mid table_place table_size s left ≡ with_table s left
   unfolding with_table
-  table_put i h l =
+  table_put i l =
       let k = image_long s i in
-      placed_part s table_place table_size left (l ∙ table_long s i) (omega arith) ∙ sym (left_there i h)
+      placed_part s table_place table_size left (l ∙ table_long s i) (omega arith)
 
 -- ## Commands
 
@@ -89,14 +89,7 @@ module _ {A : Type 0} (s : List ℕ) (call : Store → Result Store A) (room : �
       rw (i, h)
       (by_test (too_short room (stored_by (call (store_in (table_in s))))) (λ e. rw e) (λ e. rw e))
 
--- where one is not taken up no window goes, and the image stays
-pub not_taken_silent : (s : List ℕ) (cause : Refusal) → Err cause ≡ check_lists s → empties cause ≡ false
-not_taken_silent s cause e =
-    by_test (is_image s)
-    (λ i.
-    by_test (has_lists s) (λ h. let k = rw (i, h) at e in let z : ⊥ = cc in absurd z) (λ h. let k = rw (i, h) at e in let c : cause ≡ CommandNotFound = cc in rw c))
-    (λ i. let k = rw i at e in let c : cause ≡ BadLimits = cc in rw c)
-
+-- where one is not taken up the image stays
 pub not_taken_left : (s left : List ℕ) (cause : Refusal) → Err cause ≡ check_lists s → table_left s left ≡ s
 not_taken_left s left cause e =
     by_test (is_image s) (λ i. by_test (has_lists s) (λ h. let k = rw (i, h) at e in let z : ⊥ = cc in absurd z) (λ h. left_none s left i h)) (λ i. left_no_image s left i)

@@ -84,6 +84,9 @@ pub record Tells {A : Type 0} (t : List ℕ) (room : ℕ) (call : Store → Resu
 
 -- ## SetTimeZone
 
+abbrev pub zones_effects : List Effect
+zones_effects = wake_timer ∷ store_record ∷ report TimeZone ∷ report DSTOffset ∷ []
+
 module _ (t b : List ℕ) (room : ℕ) where
   -- what the model's call leaves, answers and asks for, with room for the record
   abbrev zones_by : Result Store Bool
@@ -95,7 +98,7 @@ module _ (t b : List ℕ) (room : ℕ) where
       record {
         state = changed_by (store_in t) (SetTimeZone b);
         answer = answers true;
-        effects = wake_timer ∷ store_record ∷ report TimeZone ∷ report DSTOffset ∷ [];
+        effects = zones_effects;
       }
   zones_told (Err cause) = unchanged (store_in t) cause
 
@@ -112,7 +115,7 @@ module _ (t b : List ℕ) (room : ℕ) where
       zones_by_verdict v ∙ ap zones_told (sym (zones_said t b room (verdict_of v) _ (zones_are_lem (rules_in t) b) (sym (zones_short_lem (store_in t) b room))))
 
   pub zones_tell : table_size ≤ length t → AreBytes b
-      → Tells t room (λ x. M.set_time_zone x b) (wake_timer ∷ store_record ∷ report TimeZone ∷ report DSTOffset ∷ []) (λ cause. []) (time_zone_said t b room) (time_zone_left t b room)
+      → Tells t room (λ x. M.set_time_zone x b) zones_effects (λ cause. []) (time_zone_said t b room) (time_zone_left t b room)
   unfolding store_after_sized M.store_after
   zones_tell h c =
       record {
@@ -123,6 +126,12 @@ module _ (t b : List ℕ) (room : ℕ) where
       }
 
 -- ## SetDSTOffset
+
+abbrev pub windows_effects : List Effect
+windows_effects = wake_timer ∷ store_record ∷ report DSTOffset ∷ []
+
+abbrev pub windows_refused : Refusal → List Effect
+windows_refused cause = when (empties cause) wake_timer
 
 -- a change that is counted changes the generation
 counted_differs : (g : ℕ) → next_generation g ≡ g → ⊥
@@ -137,13 +146,13 @@ module _ (t b : List ℕ) (room : ℕ) where
       record {
         state = changed_by (store_in t) (SetDSTOffset b);
         answer = done;
-        effects = wake_timer ∷ store_record ∷ report DSTOffset ∷ [];
+        effects = windows_effects;
       }
   windows_told (Err cause) =
       record {
         state = cond (empties cause) (changed_by (store_in t) (SetDSTOffset b)) (store_in t);
         answer = refused cause;
-        effects = when (empties cause) wake_timer;
+        effects = windows_refused cause;
       }
 
   windows_said_lem : dst_offset_said t b room ≡ with_room (too_short room (stored_by (M.set_dst_offset (store_in t) b))) (verdict_of (windows_verdict (rules_in t) (read_windows b)))
@@ -183,7 +192,7 @@ module _ (t b : List ℕ) (room : ℕ) where
     unfolding M.set_dst_offset
     windows_told_lem = windows_by_read (read_windows b) refl ∙ ap windows_told (sym windows_said_lem)
 
-    pub windows_tell : Tells t room (λ x. M.set_dst_offset x b) (wake_timer ∷ store_record ∷ report DSTOffset ∷ []) (λ cause. when (empties cause) wake_timer) (dst_offset_said t b room) (dst_offset_left t b room)
+    pub windows_tell : Tells t room (λ x. M.set_dst_offset x b) windows_effects windows_refused (dst_offset_said t b room) (dst_offset_left t b room)
     windows_tell =
         record {
           accepted = λ e. rw (windows_told_lem, e) (record { value = tt; answer = refl; asks = refl });

@@ -1,23 +1,27 @@
 -- The parts of the calls that the functions inside answer.
-use Rattle.std.specs.Prelude.{Bool, cond, List, ◌∷◌, [], ◌≡◌, ℕ, length, ok_or, Ok, Err}
+use Rattle.std.specs.Prelude.{Bool, cond, List, ◌∷◌, [], ◌≡◌, ℕ, length, ok_or, None, Some, Ok, Err}
 use Rattle.std.specs.Prelude.{Result as StdResult}
 use Rattle.std.specs.Option.{option_zip}
+use Rattle.std.specs.Result.{result_and}
+use denote.Ref.{MutBor}
 use Rattle.model.specs.declared.Refusal.{Refusal}
-use Rattle.model.specs.declared.Refusal.TheVariants.{Unreadable, CommandNotFound, BadLimits}
+use Rattle.model.specs.declared.Refusal.TheVariants.{Unreadable, CommandNotFound, BadLimits, NoSpace}
 use Rattle.model.specs.declared.TimeGranularity.{TimeGranularity}
 use Rattle.model.specs.declared.TimeSource.{TimeSource}
 use Rattle.model.specs.Basics.{when}
 use Rattle.model.specs.Numbers.{granularity_of, source_of, refusal_number}
 use Rattle.model.specs.Answers.{number_of, Effect, report, wake_timer, store_record, TimeZone, DSTOffset, Result}
 use Rattle.model.specs.Codes.{returned}
-use Rattle.model.specs.Output.{copied_over, truth}
+use Rattle.model.specs.Output.{too_short, copied_over, truth}
+use Rattle.model.specs.Store.{record_of}
 use Rattle.rtc.specs.declared.Rtc.{Rtc}
 use Rattle.rtc.specs.Meaning.{clock_of}
 use Rattle.model.specs.Handler.{Device}
 use Rattle.table.specs.Left.{empties}
-use Rattle.image.specs.Layout.{is_image}
+use Rattle.table.specs.Layout.{store_in}
+use Rattle.image.specs.Layout.{is_image, table_in, with_table}
 use Rattle.image.specs.Parts.{clock_in, has_lists, with_clock}
-use Rattle.image.specs.Asked.{record_stored}
+use Rattle.commands.specs.Calls.{table_left}
 
 -- the granularity and the source of a setting of an image, where their numbers name them
 abbrev pub setting_read : List ℕ → ℕ → ℕ → StdResult (TimeGranularity × TimeSource) Refusal
@@ -33,20 +37,21 @@ Sets may s (Ok p) was n t m =
 abbrev pub check_lists : List ℕ → StdResult (Unit {0}) Refusal
 check_lists s = cond (is_image s) (cond (has_lists s) (Ok tt) (Err CommandNotFound)) (Err BadLimits)
 
--- ## What a command on the lists answers: how long the record is that it stores, or why it is turned down
+-- ## A command on the lists, by what its call says of a table and leaves of it where there is so much room for the record
 
-module _ {A : Type 0} where
-  -- the effects of one that is taken, and of a refusal
-  abbrev pub AnswersBy : List Effect → (Refusal → List Effect) → Result Device A → StdResult ℕ Refusal → Type 0
-  AnswersBy taken turned_down r (Ok n) = (number_of r.answer ≡ 0) × (r.effects ≡ taken) × (n ≡ length (record_stored r))
-  AnswersBy taken turned_down r (Err cause) = (number_of r.answer ≡ refusal_number cause) × (r.effects ≡ turned_down cause)
+-- a call that may answer and leave no more than that
+abbrev pub IsCall : (MutBor (List ℕ) → ℕ → StdResult (Unit {0}) Refusal → MutBor (List ℕ) → Type 0) → (List ℕ → ℕ → StdResult (Unit {0}) Refusal) → (List ℕ → ℕ → List ℕ) → Type 0
+IsCall may says leaves =
+    (t : MutBor (List ℕ)) (room : ℕ) (said : StdResult (Unit {0}) Refusal) (u : MutBor (List ℕ)) → may t room said u → (said ≡ says t.now room) × (u.now ≡ leaves t.now room)
 
-  abbrev pub AnswersTimeZone : Result Device A → StdResult ℕ Refusal → Type 0
-  AnswersTimeZone r said = AnswersBy (wake_timer ∷ store_record ∷ report TimeZone ∷ report DSTOffset ∷ []) (λ cause. []) r said
+-- the length of the record of the table that is left, and the record at the front of the slice, where it has room
+abbrev pub StoresRecord : List ℕ → List ℕ → StdResult (Unit {0}) Refusal → StdResult ℕ Refusal → List ℕ → Type 0
+StoresRecord u out (Err cause) result o = (result ≡ Err cause) × (o ≡ out)
+StoresRecord u out (Ok tt) result o =
+    (result ≡ ok_or (cond (too_short (length out) (record_of (store_in u))) None (Some (length (record_of (store_in u))))) NoSpace)
+    × (o ≡ cond (too_short (length out) (record_of (store_in u))) out (copied_over (record_of (store_in u)) out))
 
-  abbrev pub AnswersDSTOffset : Result Device A → StdResult ℕ Refusal → Type 0
-  AnswersDSTOffset r said = AnswersBy (wake_timer ∷ store_record ∷ report DSTOffset ∷ []) (λ cause. when (empties cause) wake_timer) r said
-
-  -- the record that is stored, at the front of the slice
-  abbrev pub record_left : Result Device A → List ℕ → List ℕ
-  record_left r out = copied_over (record_stored r) out
+abbrev pub Stores : (List ℕ → ℕ → StdResult (Unit {0}) Refusal) → (List ℕ → ℕ → List ℕ) → List ℕ → List ℕ → StdResult ℕ Refusal → List ℕ → List ℕ → Type 0
+Stores says leaves s out result t o =
+    (t ≡ table_left s (leaves (table_in s) (length out)))
+    × StoresRecord (leaves (table_in s) (length out)) out (result_and (check_lists s) (says (table_in s) (length out))) result o

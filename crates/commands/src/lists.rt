@@ -1,8 +1,9 @@
 // Commands on the lists, their load and their reset.
-ghost use Rattle.std.specs.Prelude.{◌≡◌, length};
+ghost use Rattle.std.specs.Prelude.{◌≡◌, ℕ, List, Result};
+ghost use Rattle.model.specs.declared.Refusal.{Refusal};
 ghost use Rattle.image.specs.Asked.{given};
-ghost use Rattle.commands.specs.Calls.{set_time_zone, zones_set, zones_image, set_dst_offset, windows_set, windows_image, load_lists, reset_lists};
-ghost use Rattle.commands.specs.Taken.{check_lists, record_left, AnswersTimeZone, AnswersDSTOffset};
+ghost use Rattle.commands.specs.Calls.{set_time_zone, set_dst_offset, load_lists, reset_lists};
+ghost use Rattle.commands.specs.Taken.{check_lists, IsCall, Stores};
 
 use crate::codes;
 use crate::codes::{DST_OFFSET_SET, LISTS_RESET, TIME_ZONE_SET};
@@ -22,13 +23,34 @@ fn check_lists(image: &[u8]) -> Result<(), Refusal>
     Ok(())
 }
 
+// A command on the lists by its call on the table, which takes the room for the record to store; the record is copied to the front of `out`.
+// How long it is.
+fn set_by<F: FnOnce(&mut [u8], usize) -> Result<(), Refusal>>(
+    image: &mut [u8],
+    out: &mut [u8],
+    set: F,
+) -> Result<usize, Refusal>
+    requires { F.IsAlwaysCallable set }
+    ensures { (says : List ℕ → ℕ → Result (Unit {0}) Refusal) (leaves : List ℕ → ℕ → List ℕ) → IsCall (λ t room said u. F.post set t room said u) says leaves
+        → Stores says leaves image.old out.old result image.new out.new }
+{
+    check_lists(image)?;
+    let table = &mut image[TABLE..SIZE];
+    set(table, out.len())?;
+    table::write::put(table, out).ok_or(Refusal::NoSpace)
+}
+
 // SetTimeZone; the record to store is copied to the front of `out`, and `used` is its length.
 #[tactic(auto, unfolding(model::specs::Codes::returned, model::specs::Bytes::number, model::specs::Output::stores))]
 pub fn set_time_zone(image: &mut [u8], request: &[u8], out: &mut [u8], used: &mut u64) -> u64
     ensures { let set = set_time_zone image.old request.now out.old used.old in
         (result ≡ set.returned) × (image.new ≡ set.image) × (out.new ≡ set.out) × (used.new ≡ set.used) }
 {
-    match zones_set(image, request, out) {
+    match set_by(
+        image,
+        out,
+        |table, room| table::set_time_zone(table, request, room),
+    ) {
         Ok(n) => {
             *used = n as u64;
             TIME_ZONE_SET
@@ -37,41 +59,23 @@ pub fn set_time_zone(image: &mut [u8], request: &[u8], out: &mut [u8], used: &mu
     }
 }
 
-// The same; how long the record is.
-fn zones_set(image: &mut [u8], request: &[u8], out: &mut [u8]) -> Result<usize, Refusal>
-    ensures { let set = zones_set image.old request.now (length out.old) in
-        AnswersTimeZone set result × (image.new ≡ zones_image image.old request.now (length out.old)) × (out.new ≡ record_left set out.old) }
-{
-    check_lists(image)?;
-    let table = &mut image[TABLE..SIZE];
-    table::set_time_zone(table, request, out.len())?;
-    table::write::put(table, out).ok_or(Refusal::NoSpace)
-}
-
 // SetDSTOffset; the same.
 #[tactic(auto, unfolding(model::specs::Codes::returned, model::specs::Bytes::number, model::specs::Output::stores))]
 pub fn set_dst_offset(image: &mut [u8], request: &[u8], out: &mut [u8], used: &mut u64) -> u64
     ensures { let set = set_dst_offset image.old request.now out.old used.old in
         (result ≡ set.returned) × (image.new ≡ set.image) × (out.new ≡ set.out) × (used.new ≡ set.used) }
 {
-    match windows_set(image, request, out) {
+    match set_by(
+        image,
+        out,
+        |table, room| table::set_dst_offset(table, request, room),
+    ) {
         Ok(n) => {
             *used = n as u64;
             DST_OFFSET_SET
         }
         Err(cause) => codes::dst_offset_refused(cause),
     }
-}
-
-// The same; how long the record is.
-fn windows_set(image: &mut [u8], request: &[u8], out: &mut [u8]) -> Result<usize, Refusal>
-    ensures { let set = windows_set image.old request.now (length out.old) in
-        AnswersDSTOffset set result × (image.new ≡ windows_image image.old request.now (length out.old)) × (out.new ≡ record_left set out.old) }
-{
-    check_lists(image)?;
-    let table = &mut image[TABLE..SIZE];
-    table::set_dst_offset(table, request, out.len())?;
-    table::write::put(table, out).ok_or(Refusal::NoSpace)
 }
 
 // Loads the lists from their record where `there` is not 0.
