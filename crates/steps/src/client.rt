@@ -1,9 +1,7 @@
 // The two steps of the client.
 ghost use Rattle.std.specs.Prelude.{◌≡◌};
 ghost use Rattle.model.specs.Codes.{returned};
-ghost use Rattle.model.specs.Retries as R;
 ghost use Rattle.time_sync_client.specs.Meaning.{outcome_of, next_of, effects_of, step_of};
-ghost use Rattle.image.specs.Parts.{client_in, clock_in, with_clock, with_client};
 ghost use Rattle.image.specs.Asked.{given};
 ghost use Rattle.steps.specs.Steps.{outcome_by, wait_kind, wait_time, attempt_outcome, change_outcome};
 
