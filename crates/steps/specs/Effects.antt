@@ -1,9 +1,10 @@
--- The codes of effects, without an answer's number.
-use Rattle.std.specs.Prelude.{List, map, ℕ}
-use Rattle.model.specs.Answers.{Effect}
-use Rattle.model.specs.Bytes.{number}
-use Rattle.model.specs.Codes.{effect_code}
+-- The codes of effects in one 64-bit number.
+use Rattle.std.specs.Prelude.{Bool, cond, List, ℕ, ◌*◌, ◌%◌, ◌^◌, fold, reverse, bit_or}
 
--- a byte for each effect, the first lowest
-abbrev pub codes_of : List Effect → ℕ
-codes_of effects = number (map effect_code effects)
+-- a byte before the bytes of a number, the first lowest; 64 bits hold eight
+abbrev pub byte_before : ℕ → ℕ → ℕ
+byte_before first rest = bit_or (rest * 256 % 2 ^ 64) first
+
+-- the codes that are due, a byte each
+abbrev pub codes_due : List (Bool × ℕ) → ℕ
+codes_due effects = fold (λ rest e. cond e.0 (byte_before e.1 rest) rest) 0 (reverse effects)

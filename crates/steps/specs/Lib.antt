@@ -1,4 +1,3 @@
 -- The timer's look and the client's two steps on an image.
 pub mod Steps
 pub mod Effects
-pub mod Shows

@@ -1,19 +1,19 @@
 // The two steps of the client.
 ghost use Rattle.std.specs.Prelude.{◌≡◌};
 ghost use Rattle.model.specs.Codes.{returned};
-ghost use Rattle.model.specs.Retries as R;
 ghost use Rattle.time_sync_client.specs.Meaning.{outcome_of, next_of, effects_of, step_of};
-ghost use Rattle.image.specs.Parts.{client_in, clock_in, with_clock, with_client};
 ghost use Rattle.image.specs.Asked.{given};
 ghost use Rattle.steps.specs.Steps.{outcome_by, wait_kind, wait_time, attempt_outcome, change_outcome};
 
-use crate::codes::{NONE, taken, with_first};
+use crate::codes::taken;
+use image::asked::given;
 use image::codes::{
-    BAD_LIMITS, EMIT_MISSING_TRUSTED_TIME_SOURCE, EMIT_TIME_FAILURE, REPORT_GRANULARITY,
-    REPORT_TIME_SOURCE, REPORT_UTC_TIME, STORE_MOMENT,
+    EMIT_MISSING_TRUSTED_TIME_SOURCE, EMIT_TIME_FAILURE, REPORT_GRANULARITY, REPORT_TIME_SOURCE,
+    REPORT_UTC_TIME, STORE_MOMENT,
 };
 use image::parts::{client_in, put_client, put_rtc, rtc_in};
 use image::place::is_image;
+use model::Refusal;
 use time_sync_client::{Effects, Reading, Step, Wait};
 
 // The outcome of an exchange: it failed where the first mark is 0, and a moment and a granularity came where theirs are not 0.
@@ -26,10 +26,11 @@ fn outcome_by(
 ) -> Option<Reading>
     ensures { outcome_of result ≡ outcome_by answered (given has_utc utc_us) (given has_granularity granularity) }
 {
-    (answered != 0).then_some(Reading {
-        utc_time: (has_utc != 0).then_some(utc_us),
-        granularity: (has_granularity != 0).then_some(granularity),
-    })
+    let reading = Reading {
+        utc_time: given(has_utc, utc_us),
+        granularity: given(has_granularity, granularity),
+    };
+    given(answered, reading)
 }
 
 // What comes next by its number, and how long a wait is; 0 where there is none.
@@ -44,20 +45,21 @@ fn wait_numbers(next: Wait) -> (u64, u64)
 }
 
 // What a step returns: 0 and the codes of what it asks for.
-#[tactic(auto, using(crate::proofs::Returned::step_codes))]
+#[tactic(auto, unfolding(model::specs::Codes::returned, model::specs::Bytes::number))]
 fn step_number(e: Effects) -> u64
     ensures { result ≡ returned 0 (effects_of e) }
 {
-    let failure = with_first(e.time_failure, EMIT_TIME_FAILURE, NONE);
-    let events = with_first(
-        e.missing_trusted_time_source,
-        EMIT_MISSING_TRUSTED_TIME_SOURCE,
-        failure,
-    );
-    let moment = with_first(e.stored.is_some(), STORE_MOMENT, events);
-    let source = with_first(e.applied, REPORT_TIME_SOURCE, moment);
-    let granularity = with_first(e.applied, REPORT_GRANULARITY, source);
-    taken(with_first(e.applied, REPORT_UTC_TIME, granularity))
+    taken(&[
+        (e.applied, REPORT_UTC_TIME),
+        (e.applied, REPORT_GRANULARITY),
+        (e.applied, REPORT_TIME_SOURCE),
+        (e.stored.is_some(), STORE_MOMENT),
+        (
+            e.missing_trusted_time_source,
+            EMIT_MISSING_TRUSTED_TIME_SOURCE,
+        ),
+        (e.time_failure, EMIT_TIME_FAILURE),
+    ])
 }
 
 // Writes the wait after a step into the numbers, and answers what the step returns.
@@ -71,7 +73,7 @@ fn tell(step: &Step, wait: &mut u64, wait_us: &mut u64) -> u64
 }
 
 // An attempt at a tick: whether the exchange was answered, and the moment and the granularity that came, each where its mark is not 0.
-#[tactic(auto, using(crate::proofs::Returned::refused_is), unfolding(crate::specs::Steps::attempt))]
+#[tactic(auto, unfolding(crate::specs::Steps::attempt, model::specs::Codes::returned, model::specs::Bytes::number))]
 pub fn attempt(
     image: &mut [u8],
     answered: u8,
@@ -90,7 +92,7 @@ pub fn attempt(
         × (wait_us.new ≡ o.wait_time) }
 {
     if !is_image(image) {
-        return BAD_LIMITS;
+        return u64::from(Refusal::BadLimits);
     }
     let outcome = outcome_by(answered, has_utc, utc_us, has_granularity, granularity);
     let step = client_in(image).attempt(rtc_in(image), outcome, tick);
@@ -100,7 +102,7 @@ pub fn attempt(
 }
 
 // The trusted time source has changed: the retries start over.
-#[tactic(auto, using(crate::proofs::Returned::refused_is), unfolding(crate::specs::Steps::source_changed))]
+#[tactic(auto, unfolding(crate::specs::Steps::source_changed, model::specs::Codes::returned, model::specs::Bytes::number))]
 pub fn source_changed(image: &mut [u8], wait: &mut u64, wait_us: &mut u64) -> u64
     ensures { let o = change_outcome image.old wait.old wait_us.old in
         (result ≡ o.returned)
@@ -109,7 +111,7 @@ pub fn source_changed(image: &mut [u8], wait: &mut u64, wait_us: &mut u64) -> u6
         × (wait_us.new ≡ o.wait_time) }
 {
     if !is_image(image) {
-        return BAD_LIMITS;
+        return u64::from(Refusal::BadLimits);
     }
     let step = client_in(image).source_changed(rtc_in(image));
     put_client(image, step.client);

@@ -1,25 +1,15 @@
 // What a step returns: the number of its answer in the lowest byte, then a code for each effect, the first lowest.
-ghost use Rattle.std.specs.Prelude.{cond, ◌≡◌, ◌+◌, ◌*◌, ◌^◌, ◌≤◌, ◌<◌};
+ghost use Rattle.std.specs.Prelude.{◌≡◌};
+ghost use Rattle.steps.specs.Effects.{byte_before, codes_due};
 
-// No code.
-pub(crate) const NONE: u64 = 0;
+use model::TAKEN;
 
-// A code takes a byte.
-const BYTE: u64 = 0x100;
-
-// The codes of the effects with one in front, where it is due.
-pub(crate) fn with_first(due: bool, code: u64, rest: u64) -> u64
-    requires { (code < 256) × (rest < 256 ^ 6) }
-    ensures value { result ≡ cond due (code + 256 * rest) rest }
-    ensures below { result ≤ 255 + 256 * rest }
+// What a step that was taken returns: a code for each effect that is due, a byte each above that of the answer.
+pub(crate) fn taken(effects: &[(bool, u64)]) -> u64
+    ensures { result ≡ byte_before 0 (codes_due effects.now) }
 {
-    if due { code + BYTE * rest } else { rest }
-}
-
-// What a step that was taken returns: 0 and the codes.
-pub(crate) fn taken(codes: u64) -> u64
-    requires { codes < 256 ^ 7 }
-    ensures { result ≡ 256 * codes }
-{
-    BYTE * codes
+    let codes = effects.iter().rfold(0, |rest, &(due, code)| {
+        if due { (rest << u8::BITS) | code } else { rest }
+    });
+    (codes << u8::BITS) | TAKEN
 }
