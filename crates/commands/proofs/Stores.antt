@@ -1,5 +1,5 @@
 -- What a command on the lists returns, leaves and stores, by what the image and its table say of the request.
-use Rattle.std.proofs.Common.{Bool, true, false, cond, List, [], ◌≡◌, ℕ, Ok, Err, length, refl, sym}
+use Rattle.std.proofs.Common.{Bool, true, false, cond, List, [], ◌≡◌, ℕ, Ok, Err, length, refl}
 use Rattle.std.specs.Prelude.{Result as StdResult}
 use Rattle.std.specs.Result.{result_and}
 use Rattle.model.specs.declared.Refusal.{Refusal}
@@ -12,16 +12,16 @@ use Rattle.model.specs.Output.{copied_over, stores}
 use Rattle.model.specs.RoundTrip.{AreBytes}
 use Rattle.model.specs.Store as M
 use Rattle.model.specs.Store.{Store}
-use Rattle.model.specs.Handler.{Device, of_store}
+use Rattle.model.specs.Handler.{Device}
 use Rattle.model.proofs.Facts.{by_test}
 use Rattle.table.specs.Layout.{store_in}
 use Rattle.table.specs.Left.{empties, time_zone_said, time_zone_left, dst_offset_said, dst_offset_left}
 use Rattle.image.specs.Layout.{is_image, table_in}
-use Rattle.image.specs.Parts.{device_in, has_lists}
+use Rattle.image.specs.Parts.{has_lists}
 use Rattle.image.specs.Asked.{record_stored}
 use Rattle.commands.specs.Calls.{returned_by, table_left}
 use Rattle.commands.specs.Taken.{check_lists, StoresRecord, Stores}
-use Rattle.commands.proofs.Told.{roomy_in, commanded, not_taken_up, taken_up, table_there}
+use Rattle.commands.proofs.Told.{commanded, not_taken_up, taken_up, table_there}
 use Rattle.commands.proofs.Verdicts.{has_room, Tells, zones_effects, zones_tell, windows_effects, windows_refused, windows_tell}
 
 -- the effects of a command that is taken and of a refusal; that of a command that is not taken up has none

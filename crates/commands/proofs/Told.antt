@@ -1,5 +1,5 @@
 -- What a call on the lists of an image answers and leaves, by what the call on its list store answers and leaves.
-use Rattle.std.proofs.Common.{true, false, cond, List, [], ◌≡◌, ℕ, ◌≤◌, Ok, Err, length, sym, ◌∙◌, arith, le-ltb}
+use Rattle.std.proofs.Common.{true, false, cond, List, [], ◌≡◌, ℕ, ◌≤◌, Ok, Err, length, ◌∙◌, arith, le-ltb}
 use borrow.Rule.Slice.PartMut.{put_mid}
 use Rattle.model.specs.declared.Refusal.{Refusal}
 use Rattle.model.specs.declared.Refusal.TheVariants.{NoSpace, CommandNotFound, BadLimits}
@@ -12,7 +12,6 @@ use Rattle.model.specs.Handler.{Device, of_store}
 use Rattle.model.proofs.Facts.{by_test}
 use Rattle.word.proofs.Frame.{placed_part}
 use Rattle.table.specs.Layout.{table_size, store_in}
-use Rattle.table.specs.Left.{empties}
 use Rattle.image.specs.Layout.{image_size, is_image, table_place, table_in, with_table}
 use Rattle.image.specs.Parts.{device_in, has_lists}
 use Rattle.image.specs.Asked.{asked_of, record_roomy}

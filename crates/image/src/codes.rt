@@ -1,17 +1,5 @@
-// The numbers that calls on an image return: of answers, and of effects, a byte each. They stay numbers, since C reads them out of what a
-// call returns.
-
-// ## Answers: taken, or the number of a refusal
-
-pub const TAKEN: u64 = 0;
-
-pub const CONSTRAINT_ERROR: u64 = 2;
-
-pub const BAD_LIMITS: u64 = 8;
-
-pub const NO_SPACE: u64 = 9;
-
-// ## Effects: an attribute to report, an event to emit, what to wake, and what to store or to remove
+// The codes of effects in what calls on an image return, a byte each: an attribute to report, an event to emit, what to wake, and what to
+// store or to remove. They stay numbers, since C reads them out of what a call returns.
 
 pub const REPORT_UTC_TIME: u64 = 0x10;
 

@@ -11,7 +11,8 @@ ghost use Rattle.schedule_text.specs.Texts.{text_of};
 
 use lines::MOST_LINE;
 use lookups::MOST_MOMENTS;
-use table::layout::{END, MOST_NAME, MOST_WINDOWS, MOST_ZONES, NAME, SIZE};
+use record::MOST_BYTES;
+use table::layout::{MOST_WINDOWS, MOST_ZONES, SIZE};
 use text::{MOST_DIGITS, Writer};
 use word::WORD;
 
@@ -23,11 +24,8 @@ const STEPS: &[u8] = b"steps ";
 // The longest text: the header, a line for each moment of the longest walk, and the line of the steps.
 const MOST_TEXT: usize = HEADER.len() + MOST_LINE * MOST_MOMENTS + STEPS.len() + MOST_DIGITS + 1;
 
-// The longest record: two counts, the zones up to the ends of their names, and the windows up to their ends.
-const MOST_RECORD: usize = 2 + (NAME + MOST_NAME) * MOST_ZONES + (END + WORD) * MOST_WINDOWS;
-
 // The longest input: a moment and the longest record.
-pub const MOST_INPUT: usize = WORD + MOST_RECORD;
+pub const MOST_INPUT: usize = WORD + MOST_BYTES;
 
 // Some text, zeros after it, and how many bytes it has. There is no heap, so it stands in an array with room for the longest text.
 #[derive(Clone, Copy)]

@@ -2,7 +2,6 @@
 use Rattle.std.proofs.Common.{ℕ, Option, Err, ok_or, sym, refl, ap, ◌∙◌, arith}
 use Rattle.std.proofs.lemmas.Result.{err_from_is_err_and}
 use Rattle.model.specs.declared.Refusal.TheVariants.{NoSpace}
-use Rattle.image.specs.Layout.{table_in}
 use Rattle.commands.proofs.Told.{checked, image_long, left_there, not_taken_left, table_put}
 use Rattle.commands.proofs.lists.set_by.Goals as goal
 
