@@ -21,7 +21,7 @@ use Rattle.image.proofs.Alone.{table_written, table_long}
 use Rattle.commands.specs.Calls.{table_left, zones_set, zones_image, windows_set, windows_image, lists_loaded, load_lists, lists_reset, reset_lists}
 use Rattle.commands.specs.Laws.{StoredBytes, CallsMean}
 use Rattle.commands.specs.Taken.{check_lists}
-use Rattle.commands.proofs.Told.{left_there, left_none, commanded, not_taken_up, taken_up, lifecycle_there, lifecycle_none}
+use Rattle.commands.proofs.Told.{left_there, left_none, commanded, no_lists, taken_up, lifecycle_there, lifecycle_none}
 use Rattle.commands.proofs.Verdicts.{Tells, zones_tell, windows_tell}
 
 module _ (s : List ℕ) (i : is_image s ≡ true) where
@@ -44,9 +44,7 @@ module _ (s : List ℕ) (i : is_image s ≡ true) where
       → Tells t room call taken turned_down said left → device_in (table_left s left) ≡ (commanded s call room).state
   command_means {room = room} {call = call} {left = left} w =
       by_test (has_lists s) (λ h. device_left left w.long h ∙ rw (w.follows, taken_up s call room i h))
-      (λ h.
-      let e : Err CommandNotFound ≡ check_lists s = rw (i, h) in
-      rw (left_none s left i h, not_taken_up s call room CommandNotFound e))
+      (λ h. rw (left_none s left i h, no_lists s call room i h))
 
   module _ (call : Store → Result Store (Unit {0})) (left : List ℕ) (l : length left ≡ length t) where
     pub lifecycle_means : store_in left ≡ (call (store_in t)).state → device_in (table_left s left) ≡ (asked_of s (H.lifecycle d d.store call)).state

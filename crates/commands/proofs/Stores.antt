@@ -1,18 +1,18 @@
 -- What a command on the lists returns, leaves and stores, by what the image and its table say of the request.
-use Rattle.std.proofs.Common.{Bool, true, false, cond, List, [], ◌≡◌, ℕ, Ok, Err, length, refl, sym}
+use Rattle.std.proofs.Common.{Bool, true, false, cond, List, [], ◌≡◌, ℕ, Ok, Err, length, refl}
 use Rattle.std.specs.Prelude.{Result as StdResult}
 use Rattle.std.specs.Result.{result_and}
 use Rattle.model.specs.declared.Refusal.{Refusal}
 use Rattle.model.specs.declared.Refusal.TheVariants.{CommandNotFound, BadLimits}
 use Rattle.model.specs.Numbers.{refusal_number}
 use Rattle.model.specs.Basics.{when}
-use Rattle.model.specs.Answers.{Effect, wake_timer, Result}
+use Rattle.model.specs.Answers.{Effect, wake_timer, Result, unchanged}
 use Rattle.model.specs.Codes.{returned}
 use Rattle.model.specs.Output.{copied_over, stores}
 use Rattle.model.specs.RoundTrip.{AreBytes}
 use Rattle.model.specs.Store as M
 use Rattle.model.specs.Store.{Store}
-use Rattle.model.specs.Handler.{Device, of_store}
+use Rattle.model.specs.Handler.{Device}
 use Rattle.model.proofs.Facts.{by_test}
 use Rattle.table.specs.Layout.{store_in}
 use Rattle.table.specs.Left.{empties, time_zone_said, time_zone_left, dst_offset_said, dst_offset_left}
@@ -21,7 +21,7 @@ use Rattle.image.specs.Parts.{device_in, has_lists}
 use Rattle.image.specs.Asked.{record_stored}
 use Rattle.commands.specs.Calls.{returned_by, table_left}
 use Rattle.commands.specs.Taken.{check_lists, StoresRecord, Stores}
-use Rattle.commands.proofs.Told.{roomy_in, commanded, not_taken_up, taken_up, table_there}
+use Rattle.commands.proofs.Told.{commanded, no_image, no_lists, taken_up, table_there}
 use Rattle.commands.proofs.Verdicts.{has_room, Tells, zones_effects, zones_tell, windows_effects, windows_refused, windows_tell}
 
 -- the effects of a command that is taken and of a refusal; that of a command that is not taken up has none
@@ -45,9 +45,9 @@ module _ {A : Type 0} (s left out : List ℕ) (used : ℕ) (call : Store → Res
 
   module _ (f : Effects taken turned_down) {v : StdResult (Unit {0}) Refusal} (w : Ok tt ≡ check_lists s → Tells (table_in s) (length out) call taken turned_down v left)
       (result : StdResult ℕ Refusal) (t o : List ℕ) (g : t ≡ table_left s left) where
-    not_taken : (cause : Refusal) → Err cause ≡ check_lists s → turned_down cause ≡ [] → StoresRecord left out (Err cause) result o → Ends result t o
+    not_taken : (cause : Refusal) → r ≡ unchanged (device_in s) cause → turned_down cause ≡ [] → StoresRecord left out (Err cause) result o → Ends result t o
     unfolding stores
-    not_taken cause e k p = rw (p.0, p.1, k, not_taken_up s call (length out) cause e) (refl, g, refl, refl)
+    not_taken cause e k p = rw (p.0, p.1, k, e) (refl, g, refl, refl)
 
     there : is_image s ≡ true → has_lists s ≡ true → (k : StdResult (Unit {0}) Refusal) → v ≡ k → StoresRecord left out k result o → Ends result t o
     there i h (Err cause) m p =
@@ -64,8 +64,8 @@ module _ {A : Type 0} (s left out : List ℕ) (used : ℕ) (call : Store → Res
         by_test (is_image s)
         (λ i.
         by_test (has_lists s) (λ h. let q = rw (i, h) at p in there i h v refl q)
-        (λ h. let q = rw (i, h) at p in not_taken CommandNotFound (rw (i, h)) f.no_lists q))
-        (λ i. let q = rw i at p in not_taken BadLimits (rw i) f.no_image q)
+        (λ h. let q = rw (i, h) at p in not_taken CommandNotFound (no_lists s call (length out) i h) f.no_lists q))
+        (λ i. let q = rw i at p in not_taken BadLimits (no_image s call (length out) i) f.no_image q)
 
 -- a wake stores nothing
 woken : (b : Bool) → stores (when b wake_timer) ≡ false

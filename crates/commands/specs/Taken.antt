@@ -1,5 +1,5 @@
 -- The parts of the calls that the functions inside answer.
-use Rattle.std.specs.Prelude.{Bool, cond, List, ◌∷◌, [], ◌≡◌, ℕ, length, ok_or, None, Some, Ok, Err}
+use Rattle.std.specs.Prelude.{Bool, cond, List, [], ◌≡◌, ℕ, length, ok_or, None, Some, Ok, Err}
 use Rattle.std.specs.Prelude.{Result as StdResult}
 use Rattle.std.specs.Option.{option_zip}
 use Rattle.std.specs.Result.{result_and}
@@ -8,18 +8,14 @@ use Rattle.model.specs.declared.Refusal.{Refusal}
 use Rattle.model.specs.declared.Refusal.TheVariants.{Unreadable, CommandNotFound, BadLimits, NoSpace}
 use Rattle.model.specs.declared.TimeGranularity.{TimeGranularity}
 use Rattle.model.specs.declared.TimeSource.{TimeSource}
-use Rattle.model.specs.Basics.{when}
 use Rattle.model.specs.Numbers.{granularity_of, source_of, refusal_number}
-use Rattle.model.specs.Answers.{number_of, Effect, report, wake_timer, store_record, TimeZone, DSTOffset, Result}
 use Rattle.model.specs.Codes.{returned}
 use Rattle.model.specs.Output.{too_short, copied_over, truth}
 use Rattle.model.specs.Store.{record_of}
 use Rattle.rtc.specs.declared.Rtc.{Rtc}
 use Rattle.rtc.specs.Meaning.{clock_of}
-use Rattle.model.specs.Handler.{Device}
-use Rattle.table.specs.Left.{empties}
 use Rattle.table.specs.Layout.{store_in}
-use Rattle.image.specs.Layout.{is_image, table_in, with_table}
+use Rattle.image.specs.Layout.{is_image, table_in}
 use Rattle.image.specs.Parts.{clock_in, has_lists, with_clock}
 use Rattle.commands.specs.Calls.{table_left}
 

@@ -15,7 +15,7 @@ use Rattle.image.specs.Layout.{is_image, table_in}
 use Rattle.image.specs.Parts.{has_lists}
 use Rattle.image.specs.Asked.{given}
 use Rattle.commands.specs.Calls.{lists_loaded, load_lists, returned_by}
-use Rattle.commands.proofs.Told.{image_long, left_there, table_put}
+use Rattle.commands.proofs.Told.{image_long, table_put}
 use Rattle.commands.proofs.Verdicts.{load_told}
 use Rattle.commands.proofs.lists.load_lists.Goals as goal
 use Rattle.commands.proofs.lists.load_lists.Goals.{then-not-has_lists-via-then-not-has_lists, then-not-has_lists-via-else-not-has_lists+then-there-eq0}
@@ -57,7 +57,7 @@ returns-in-Ok c =
     let i = sym c.if-not-is_image.ensures in
     let h = sym c.if-not-has_lists.ensures in
     rw (ne_eqb c.args.there 0 c.if-there-eq0.false, c.load.ensures.1)
-    (loaded s i h b R.accepted (sym c.load.ensures.0 ∙ c.in-Ok.is), table_put s (load_left (table_in s) b) i (lengths_stay (table_in s) b 0).load ∙ sym (left_there s (load_left (table_in s) b) i h))
+    (loaded s i h b R.accepted (sym c.load.ensures.0 ∙ c.in-Ok.is), table_put s (load_left (table_in s) b) i h (lengths_stay (table_in s) b 0).load)
 
 pub returns-in-Err : goal.returns-in-Err
 returns-in-Err c =
@@ -66,4 +66,4 @@ returns-in-Err c =
     let i = sym c.if-not-is_image.ensures in
     let h = sym c.if-not-has_lists.ensures in
     rw (ne_eqb c.args.there 0 c.if-there-eq0.false, c.load.ensures.1)
-    (c.refusal-in-Err.ensures ∙ loaded s i h b (R.turned_down c.in-Err.cause) (sym c.load.ensures.0 ∙ c.in-Err.is), table_put s (load_left (table_in s) b) i (lengths_stay (table_in s) b 0).load ∙ sym (left_there s (load_left (table_in s) b) i h))
+    (c.refusal-in-Err.ensures ∙ loaded s i h b (R.turned_down c.in-Err.cause) (sym c.load.ensures.0 ∙ c.in-Err.is), table_put s (load_left (table_in s) b) i h (lengths_stay (table_in s) b 0).load)
