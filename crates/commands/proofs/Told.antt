@@ -53,7 +53,8 @@ module _ (s left : List ℕ) where
   -- where no command is taken up the image stays
   pub left_unchecked : (cause : Refusal) → Err cause ≡ check_lists s → table_left s left ≡ s
   left_unchecked cause e =
-      by_test (is_image s) (λ i. by_test (has_lists s) (λ h. let k = rw (i, h) at e in let z : ⊥ = cc in absurd z) (left_none i)) (λ i. rw i)
+      by_test (is_image s)
+      (λ i. by_test (has_lists s) (λ h. let k = rw (i, h) at e in let z : ⊥ = cc in absurd z) (left_none i)) (λ i. rw i)
 
   -- a table that is written in its place
   pub table_put : is_image s ≡ true → has_lists s ≡ true → length left ≡ length (table_in s)

@@ -1,7 +1,8 @@
 // Commands on the clock, its own settings, its load and its reset.
 ghost use Rattle.std.specs.Prelude.{◌≡◌};
 ghost use Rattle.image.specs.Asked.{given};
-ghost use Rattle.commands.specs.Calls.{set_utc_time_command, set_trusted_time_source, named_by, rtc_set, rtc_set_persist, source_by, load_clock, reset_clock};
+ghost use Rattle.commands.specs.Calls.{set_utc_time_command, set_trusted_time_source, named_by, rtc_set, rtc_set_persist};
+ghost use Rattle.commands.specs.Calls.{source_by, load_clock, reset_clock};
 ghost use Rattle.commands.specs.Taken.{setting_read, Sets};
 
 use crate::codes::{CLOCK_RESET, UTC_REPORTED};

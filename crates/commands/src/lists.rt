@@ -32,7 +32,7 @@ fn set_by<F: FnOnce(&mut [u8], usize) -> Result<(), Refusal>>(
 ) -> Result<usize, Refusal>
     requires { F.IsAlwaysCallable call }
     ensures { (says : List ℕ → ℕ → Result (Unit {0}) Refusal) (leaves : List ℕ → ℕ → List ℕ)
-        → IsCall (λ t room said u. F.post call t room said u) says leaves → Stores says leaves image.old out.old result image.new out.new }
+        → IsCall says leaves (λ t room said u. F.post call t room said u) → Stores says leaves image.old out.old result image.new out.new }
 {
     check_lists(image)?;
     let table = &mut image[TABLE..SIZE];

@@ -1,5 +1,5 @@
 -- `lists::reset_lists` meets its contract.
-use Rattle.std.proofs.Common.{[], sym, ◌∙◌, arith}
+use Rattle.std.proofs.Common.{[], sym, arith}
 use Rattle.model.specs.Bytes.{number}
 use Rattle.model.specs.Codes.{returned}
 use Rattle.model.specs.Store as M
