@@ -53,6 +53,7 @@ module _ (says : List ℕ → ℕ → StdResult (Unit {0}) Refusal) (leaves : Li
       (t : MutBor (List ℕ)) (room : ℕ) (said : StdResult (Unit {0}) Refusal) (u : MutBor (List ℕ)) → may t room said u
       → (said ≡ says t.now room) × (u.now ≡ leaves t.now room)
 
+  -- what is answered, the image and the slice
   abbrev pub Stores : List ℕ → List ℕ → StdResult ℕ Refusal → List ℕ → List ℕ → Type 0
   Stores s out result t o =
       (t ≡ table_left s (leaves (table_in s) (length out)))

@@ -93,9 +93,9 @@ fn set_by<F: FnOnce(Rtc, TimeGranularity, TimeSource) -> (Rtc, bool, u64)>(
     let (Ok(granularity), Ok(source)) = numbers else {
         return codes::refusal(Refusal::Unreadable);
     };
-    let (rtc, anew, number) = call(rtc_in(image), granularity, source);
+    let (rtc, has_changed, number) = call(rtc_in(image), granularity, source);
     put_rtc(image, rtc);
-    *changed = u64::from(anew);
+    *changed = u64::from(has_changed);
     number
 }
 
