@@ -1,8 +1,7 @@
 -- The image that a call on the lists leaves stands for the device that the model's call leaves.
 use Rattle.std.specs.Prelude.{Result as StdResult}
-use Rattle.std.proofs.Common.{true, List, [], ◌≡◌, ℕ, ◌≤◌, Option, None, Some, Err, length, ◌∙◌, arith}
+use Rattle.std.proofs.Common.{true, List, [], ◌≡◌, ℕ, ◌≤◌, Option, None, Some, length, ◌∙◌, arith}
 use Rattle.model.specs.declared.Refusal.{Refusal}
-use Rattle.model.specs.declared.Refusal.TheVariants.{CommandNotFound}
 use Rattle.model.specs.Answers.{Effect, Result}
 use Rattle.model.specs.History.{verdict, after}
 use Rattle.model.specs.Store as M
@@ -20,8 +19,7 @@ use Rattle.image.specs.Asked.{asked_of}
 use Rattle.image.proofs.Alone.{table_written, table_long}
 use Rattle.commands.specs.Calls.{table_left, zones_set, zones_image, windows_set, windows_image, lists_loaded, load_lists, lists_reset, reset_lists}
 use Rattle.commands.specs.Laws.{StoredBytes, CallsMean}
-use Rattle.commands.specs.Taken.{check_lists}
-use Rattle.commands.proofs.Told.{left_there, left_none, commanded, not_taken_up, taken_up, lifecycle_there, lifecycle_none}
+use Rattle.commands.proofs.Told.{left_there, left_none, commanded, no_lists, taken_up, lifecycle_there, lifecycle_none}
 use Rattle.commands.proofs.Verdicts.{Tells, zones_tell, windows_tell}
 
 module _ (s : List ℕ) (i : is_image s ≡ true) where
@@ -35,21 +33,22 @@ module _ (s : List ℕ) (i : is_image s ≡ true) where
   long = omega (arith, table_long s i)
 
   -- another table is another list store, and no more
-  device_left : (u : List ℕ) → length u ≡ length t → has_lists s ≡ true → device_in (table_left s u) ≡ record { clock = clock_in s; store = Some (store_in u) }
+  device_left : (u : List ℕ) → length u ≡ length t → has_lists s ≡ true
+      → device_in (table_left s u) ≡ record { clock = clock_in s; store = Some (store_in u) }
   device_left u l h =
       let w = table_written s u i (l ∙ table_long s i) in
       rw (left_there s u i h, w.there, h, w.clock, w.table)
 
-  command_means : {A : Type 0} {room : ℕ} {call : Store → Result Store A} {taken : List Effect} {turned_down : Refusal → List Effect} {said : StdResult (Unit {0}) Refusal} {left : List ℕ}
+  command_means : {A : Type 0} {room : ℕ} {call : Store → Result Store A} {taken : List Effect} {turned_down : Refusal → List Effect}
+      {said : StdResult (Unit {0}) Refusal} {left : List ℕ}
       → Tells t room call taken turned_down said left → device_in (table_left s left) ≡ (commanded s call room).state
   command_means {room = room} {call = call} {left = left} w =
       by_test (has_lists s) (λ h. device_left left w.long h ∙ rw (w.follows, taken_up s call room i h))
-      (λ h.
-      let e : Err CommandNotFound ≡ check_lists s = rw (i, h) in
-      rw (left_none s left i h, not_taken_up s call room CommandNotFound e))
+      (λ h. rw (left_none s left i h, no_lists s call room i h))
 
   module _ (call : Store → Result Store (Unit {0})) (left : List ℕ) (l : length left ≡ length t) where
-    pub lifecycle_means : store_in left ≡ (call (store_in t)).state → device_in (table_left s left) ≡ (asked_of s (H.lifecycle d d.store call)).state
+    pub lifecycle_means : store_in left ≡ (call (store_in t)).state
+        → device_in (table_left s left) ≡ (asked_of s (H.lifecycle d d.store call)).state
     lifecycle_means f =
         by_test (has_lists s) (λ h. device_left left l h ∙ rw (f, lifecycle_there s call i h))
         (λ h. rw (left_none s left i h, lifecycle_none s call i h))

@@ -50,15 +50,19 @@ module _ (s left : List ℕ) where
   pub left_none : is_image s ≡ true → has_lists s ≡ false → table_left s left ≡ s
   left_none i h = rw (i, h)
 
-  pub left_no_image : is_image s ≡ false → table_left s left ≡ s
-  left_no_image i = rw i
+  -- where no command is taken up the image stays
+  pub left_unchecked : (cause : Refusal) → Err cause ≡ check_lists s → table_left s left ≡ s
+  left_unchecked cause e =
+      by_test (is_image s)
+      (λ i. by_test (has_lists s) (λ h. let k = rw (i, h) at e in let z : ⊥ = cc in absurd z) (left_none i)) (λ i. rw i)
 
   -- a table that is written in its place
-  pub table_put : is_image s ≡ true → length left ≡ length (table_in s) → put_mid table_place table_size s left ≡ with_table s left
+  pub table_put : is_image s ≡ true → has_lists s ≡ true → length left ≡ length (table_in s)
+      → put_mid table_place table_size s left ≡ table_left s left
   unfolding with_table
-  table_put i l =
+  table_put i h l =
       let k = image_long s i in
-      placed_part s table_place table_size left (l ∙ table_long s i) (omega arith)
+      placed_part s table_place table_size left (l ∙ table_long s i) (omega arith) ∙ sym (left_there i h)
 
 -- ## Commands
 
@@ -66,38 +70,29 @@ module _ {A : Type 0} (s : List ℕ) (call : Store → Result Store A) (room : �
   abbrev pub commanded : Result Device A
   commanded = record_roomy room (device_in s) (asked_of s (H.command (device_in s) (device_in s).store call))
 
-  -- one that is not taken up
-  pub not_taken_up : (cause : Refusal) → Err cause ≡ check_lists s → commanded ≡ unchanged (device_in s) cause
+  pub no_image : is_image s ≡ false → commanded ≡ unchanged (device_in s) BadLimits
   unfolding stores
-  not_taken_up cause e =
-      by_test (is_image s)
-      (λ i.
-      by_test (has_lists s) (λ h. let k = rw (i, h) at e in let z : ⊥ = cc in absurd z)
-      (λ h.
-      let k = rw (i, h) at e in
-      let c : cause ≡ CommandNotFound = cc in
-      rw (i, h, le-ltb room 0 (omega arith), c)))
-      (λ i.
-      let k = rw i at e in
-      let c : cause ≡ BadLimits = cc in
-      rw (i, le-ltb room 0 (omega arith), c))
+  no_image i = rw (i, le-ltb room 0 (omega arith))
 
-  -- one that is taken up is a call on the list store
-  pub taken_up : is_image s ≡ true → has_lists s ≡ true → commanded ≡ of_store (device_in s) (roomy_in room (store_in (table_in s)) (call (store_in (table_in s))))
+  pub no_lists : is_image s ≡ true → has_lists s ≡ false → commanded ≡ unchanged (device_in s) CommandNotFound
+  unfolding stores
+  no_lists i h = rw (i, h, le-ltb room 0 (omega arith))
+
+  -- a command that is taken up is a call on the list store
+  pub taken_up : is_image s ≡ true → has_lists s ≡ true
+      → commanded ≡ of_store (device_in s) (roomy_in room (store_in (table_in s)) (call (store_in (table_in s))))
   taken_up i h =
       rw (i, h)
       (by_test (too_short room (stored_by (call (store_in (table_in s))))) (λ e. rw e) (λ e. rw e))
 
--- where one is not taken up the image stays
-pub not_taken_left : (s left : List ℕ) (cause : Refusal) → Err cause ≡ check_lists s → table_left s left ≡ s
-not_taken_left s left cause e =
-    by_test (is_image s) (λ i. by_test (has_lists s) (λ h. let k = rw (i, h) at e in let z : ⊥ = cc in absurd z) (λ h. left_none s left i h)) (λ i. left_no_image s left i)
-
 -- ## Load and reset
 
 module _ (s : List ℕ) (call : Store → Result Store (Unit {0})) (i : is_image s ≡ true) where
-  pub lifecycle_there : has_lists s ≡ true → asked_of s (H.lifecycle (device_in s) (device_in s).store call) ≡ of_store (device_in s) (call (store_in (table_in s)))
+  abbrev asked : Result Device (Unit {0})
+  asked = asked_of s (H.lifecycle (device_in s) (device_in s).store call)
+
+  pub lifecycle_there : has_lists s ≡ true → asked ≡ of_store (device_in s) (call (store_in (table_in s)))
   lifecycle_there h = rw (i, h)
 
-  pub lifecycle_none : has_lists s ≡ false → asked_of s (H.lifecycle (device_in s) (device_in s).store call) ≡ record { state = device_in s; answer = done; effects = [] }
+  pub lifecycle_none : has_lists s ≡ false → asked ≡ record { state = device_in s; answer = done; effects = [] }
   lifecycle_none h = rw (i, h)

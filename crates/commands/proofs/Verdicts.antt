@@ -28,12 +28,14 @@ use Rattle.commands.proofs.Told.{stored_by, roomy_in}
 
 module _ (s : Store) (b : List ℕ) (room : ℕ) where
   zones_short_by : (v : R.Verdict)
-      → too_short room (stored_by (M.time_zone_set s b v)) ≡ lacks_room room (if_accepted v (Some (record_bytes (after s.rules s.lists (SetTimeZone b)))) None)
+      → too_short room (stored_by (M.time_zone_set s b v))
+      ≡ lacks_room room (if_accepted v (Some (record_bytes (after s.rules s.lists (SetTimeZone b)))) None)
   unfolding stores M.record_of
   zones_short_by R.accepted = refl
   zones_short_by (R.turned_down cause) = le-ltb room 0 (omega arith)
 
-  zones_short_lem : too_short room (stored_by (M.set_time_zone s b)) ≡ no_space s.rules s.lists (record { call = SetTimeZone b; room = room })
+  zones_short_lem : too_short room (stored_by (M.set_time_zone s b))
+      ≡ no_space s.rules s.lists (record { call = SetTimeZone b; room = room })
   unfolding M.set_time_zone no_space O.stored_by
   zones_short_lem = zones_short_by (verdict s.rules (SetTimeZone b))
 
@@ -45,11 +47,13 @@ module _ (s : Store) (b : List ℕ) (room : ℕ) where
   windows_short_by (Some ws) = tested (test_windows s.rules ws)
     where
       tested : (v : R.Verdict)
-          → too_short room (stored_by (M.windows_tested s b v)) ≡ lacks_room room (if_accepted v (Some (record_bytes (after s.rules s.lists (SetDSTOffset b)))) None)
+          → too_short room (stored_by (M.windows_tested s b v))
+          ≡ lacks_room room (if_accepted v (Some (record_bytes (after s.rules s.lists (SetDSTOffset b)))) None)
       tested R.accepted = refl
       tested (R.turned_down cause) = le-ltb room 0 (omega arith)
 
-  windows_short_lem : too_short room (stored_by (M.set_dst_offset s b)) ≡ no_space s.rules s.lists (record { call = SetDSTOffset b; room = room })
+  windows_short_lem : too_short room (stored_by (M.set_dst_offset s b))
+      ≡ no_space s.rules s.lists (record { call = SetDSTOffset b; room = room })
   unfolding M.set_dst_offset no_space O.stored_by verdict
   windows_short_lem = windows_short_by (read_windows b)
 
@@ -73,10 +77,10 @@ module _ {A : Type 0} (r : Result Store A) where
     pub answer : r.answer ≡ refused cause
     pub asks : r.effects ≡ effects
 
--- what a table says of a request, with the effects of one that is taken and of a refusal, and what it leaves are what the model's call makes of
--- its list store
-pub record Tells {A : Type 0} (t : List ℕ) (room : ℕ) (call : Store → Result Store A) (taken : List Effect) (turned_down : Refusal → List Effect)
-    (said : StdResult (Unit {0}) Refusal) (left : List ℕ) : Type 0 where
+-- what a table says of a request and leaves is what the model's call makes of its list store; with the effects of a request that is taken, and
+-- of a refusal
+pub record Tells {A : Type 0} (t : List ℕ) (room : ℕ) (call : Store → Result Store A) (taken : List Effect)
+    (turned_down : Refusal → List Effect) (said : StdResult (Unit {0}) Refusal) (left : List ℕ) : Type 0 where
   pub accepted : said ≡ Ok tt → Gives (roomy_in room (store_in t) (call (store_in t))) taken
   pub refused : (cause : Refusal) → said ≡ Err cause → Refuses (roomy_in room (store_in t) (call (store_in t))) cause (turned_down cause)
   pub follows : store_in left ≡ (roomy_in room (store_in t) (call (store_in t))).state
@@ -103,7 +107,8 @@ module _ (t b : List ℕ) (room : ℕ) where
   zones_told (Err cause) = unchanged (store_in t) cause
 
   zones_by_verdict : (v : R.Verdict)
-      → roomy_in room (store_in t) (M.time_zone_set (store_in t) b v) ≡ zones_told (with_room (too_short room (stored_by (M.time_zone_set (store_in t) b v))) (verdict_of v))
+      → roomy_in room (store_in t) (M.time_zone_set (store_in t) b v)
+      ≡ zones_told (with_room (too_short room (stored_by (M.time_zone_set (store_in t) b v))) (verdict_of v))
   unfolding stores
   zones_by_verdict R.accepted = by_test (too_short room (stored_by (M.time_zone_set (store_in t) b R.accepted))) (λ e. rw e) (λ e. rw e)
   zones_by_verdict (R.turned_down cause) = rw (le-ltb room 0 (omega arith))
@@ -112,7 +117,8 @@ module _ (t b : List ℕ) (room : ℕ) where
   unfolding M.set_time_zone
   zones_told_lem =
       let v = verdict (rules_in t) (SetTimeZone b) in
-      zones_by_verdict v ∙ ap zones_told (sym (zones_said t b room (verdict_of v) _ (zones_are_lem (rules_in t) b) (sym (zones_short_lem (store_in t) b room))))
+      let said = zones_said t b room (verdict_of v) _ (zones_are_lem (rules_in t) b) (sym (zones_short_lem (store_in t) b room)) in
+      zones_by_verdict v ∙ ap zones_told (sym said)
 
   pub zones_tell : table_size ≤ length t → AreBytes b
       → Tells t room (λ x. M.set_time_zone x b) zones_effects (λ cause. []) (time_zone_said t b room) (time_zone_left t b room)
@@ -155,7 +161,8 @@ module _ (t b : List ℕ) (room : ℕ) where
         effects = windows_refused cause;
       }
 
-  windows_said_lem : dst_offset_said t b room ≡ with_room (too_short room (stored_by (M.set_dst_offset (store_in t) b))) (verdict_of (windows_verdict (rules_in t) (read_windows b)))
+  windows_said_lem : dst_offset_said t b room
+      ≡ with_room (too_short room (stored_by (M.set_dst_offset (store_in t) b))) (verdict_of (windows_verdict (rules_in t) (read_windows b)))
   unfolding verdict
   windows_said_lem = windows_said t b room _ _ (windows_are_lem (rules_in t) b) (sym (windows_short_lem (store_in t) b room))
 
@@ -166,7 +173,8 @@ module _ (t b : List ℕ) (room : ℕ) where
         dst_offset_follows t b room h c ∙ rw (roomy_state, windows_short_lem (store_in t) b room)
 
     -- readable windows that are turned down leave none: the model counts a change
-    leaves_none : (ws : List Window) (cause : Refusal) → read_windows b ≡ Some ws → test_windows (rules_in t) ws ≡ R.turned_down cause → empties cause ≡ true
+    leaves_none : (ws : List Window) (cause : Refusal) → read_windows b ≡ Some ws → test_windows (rules_in t) ws ≡ R.turned_down cause
+        → empties cause ≡ true
     unfolding dst_offset_left M.set_dst_offset stores
     leaves_none ws cause e a =
         by_test (empties cause) (λ y. y)
@@ -174,7 +182,9 @@ module _ (t b : List ℕ) (room : ℕ) where
         let said : Err cause ≡ dst_offset_said t b room = rw (windows_said_lem, e, a) in
         let stays = windows_stay t (dst_offset_said t b room) cause (read_windows b) said n in
         let counts : windows_by.state.generation ≡ next_generation (generation_in t) = rw (e, a, le-ltb room 0 (omega arith)) in
-        absurd (counted_differs (generation_in t) (sym (ap generation_in stays ∙ ap (λ (x : Store). x.generation) windows_follow ∙ counts))))
+        let same : generation_in t ≡ next_generation (generation_in t)
+        = ap generation_in stays ∙ ap (λ (x : Store). x.generation) windows_follow ∙ counts in
+        absurd (counted_differs (generation_in t) (sym same)))
 
     windows_by_read : (o : Option (List Window)) → read_windows b ≡ o
         → roomy_in room (store_in t) (M.windows_read (store_in t) b o)
@@ -184,7 +194,8 @@ module _ (t b : List ℕ) (room : ℕ) where
     windows_by_read (Some ws) e = tested (test_windows (rules_in t) ws) refl
       where
         tested : (v : R.Verdict) → test_windows (rules_in t) ws ≡ v
-            → roomy_in room (store_in t) (M.windows_tested (store_in t) b v) ≡ windows_told (with_room (too_short room (stored_by (M.windows_tested (store_in t) b v))) (verdict_of v))
+            → roomy_in room (store_in t) (M.windows_tested (store_in t) b v)
+            ≡ windows_told (with_room (too_short room (stored_by (M.windows_tested (store_in t) b v))) (verdict_of v))
         tested R.accepted a = by_test (too_short room (stored_by (M.windows_tested (store_in t) b R.accepted))) (λ k. rw k) (λ k. rw k)
         tested (R.turned_down cause) a = rw (le-ltb room 0 (omega arith), leaves_none ws cause e a)
 
@@ -192,7 +203,8 @@ module _ (t b : List ℕ) (room : ℕ) where
     unfolding M.set_dst_offset
     windows_told_lem = windows_by_read (read_windows b) refl ∙ ap windows_told (sym windows_said_lem)
 
-    pub windows_tell : Tells t room (λ x. M.set_dst_offset x b) windows_effects windows_refused (dst_offset_said t b room) (dst_offset_left t b room)
+    pub windows_tell :
+        Tells t room (λ x. M.set_dst_offset x b) windows_effects windows_refused (dst_offset_said t b room) (dst_offset_left t b room)
     windows_tell =
         record {
           accepted = λ e. rw (windows_told_lem, e) (record { value = tt; answer = refl; asks = refl });
@@ -204,7 +216,8 @@ module _ (t b : List ℕ) (room : ℕ) where
 -- ## Load
 
 -- what is said of a record is what the model answers
-pub load_told : (t b : List ℕ) (v : R.Verdict) → load_said t b ≡ verdict_of v → M.load (store_in t) (Some b) ≡ M.store_loaded (store_in t) (Some b) v
+pub load_told : (t b : List ℕ) (v : R.Verdict) → load_said t b ≡ verdict_of v
+    → M.load (store_in t) (Some b) ≡ M.store_loaded (store_in t) (Some b) v
 unfolding load_said record_tested M.load
 load_told t b v e = ap (M.store_loaded (store_in t) (Some b)) (same_said (verdict (rules_in t) (Load (Some b))) v e)
   where

@@ -1,7 +1,8 @@
 // Commands on the clock, its own settings, its load and its reset.
 ghost use Rattle.std.specs.Prelude.{◌≡◌};
 ghost use Rattle.image.specs.Asked.{given};
-ghost use Rattle.commands.specs.Calls.{set_utc_time_command, set_trusted_time_source, named_by, rtc_set, rtc_set_persist, source_by, load_clock, reset_clock};
+ghost use Rattle.commands.specs.Calls.{set_utc_time_command, set_trusted_time_source, named_by, rtc_set, rtc_set_persist};
+ghost use Rattle.commands.specs.Calls.{source_by, load_clock, reset_clock};
 ghost use Rattle.commands.specs.Taken.{setting_read, Sets};
 
 use crate::codes::{CLOCK_RESET, UTC_REPORTED};
@@ -25,7 +26,8 @@ pub fn set_utc_time(
     source: u8,
     tick: u64,
 ) -> u64
-    ensures { let set = set_utc_time_command image.old utc_us granularity (given has_source source) tick in (result ≡ set.returned) × (image.new ≡ set.image) }
+    ensures { let set = set_utc_time_command image.old utc_us granularity (given has_source source) tick in
+        (result ≡ set.returned) × (image.new ≡ set.image) }
 {
     if !is_image(image) {
         return codes::refusal(Refusal::BadLimits);
@@ -52,7 +54,8 @@ pub fn set_trusted_time_source(
     node_id: u64,
     endpoint: u16,
 ) -> u64
-    ensures { let set = set_trusted_time_source image.old fab_idx (named_by named node_id endpoint) in (result ≡ set.returned) × (image.new ≡ set.image) }
+    ensures { let set = set_trusted_time_source image.old fab_idx (named_by named node_id endpoint) in
+        (result ≡ set.returned) × (image.new ≡ set.image) }
 {
     if fab_idx == 0 {
         return codes::refusal(Refusal::InvalidCommand);
@@ -74,10 +77,11 @@ fn set_by<F: FnOnce(Rtc, TimeGranularity, TimeSource) -> (Rtc, bool, u64)>(
     granularity: u8,
     source: u8,
     changed: &mut u64,
-    set: F,
+    call: F,
 ) -> u64
-    requires { F.IsAlwaysCallable set }
-    ensures { Sets (λ rtc g t r. F.post set rtc g t r) image.old (setting_read image.old granularity source) changed.old result image.new changed.new }
+    requires { F.IsAlwaysCallable call }
+    ensures { Sets (λ rtc g t r. F.post call rtc g t r)
+        image.old (setting_read image.old granularity source) changed.old result image.new changed.new }
 {
     if !is_image(image) {
         return codes::refusal(Refusal::BadLimits);
@@ -89,9 +93,9 @@ fn set_by<F: FnOnce(Rtc, TimeGranularity, TimeSource) -> (Rtc, bool, u64)>(
     let (Ok(granularity), Ok(source)) = numbers else {
         return codes::refusal(Refusal::Unreadable);
     };
-    let (rtc, anew, number) = set(rtc_in(image), granularity, source);
+    let (rtc, has_changed, number) = call(rtc_in(image), granularity, source);
     put_rtc(image, rtc);
-    *changed = u64::from(anew);
+    *changed = u64::from(has_changed);
     number
 }
 
@@ -105,18 +109,14 @@ pub fn rtc_set_utc_time(
     tick: u64,
     changed: &mut u64,
 ) -> u64
-    ensures { let set = rtc_set image.old utc_us granularity source tick changed.old in (result ≡ set.returned) × (image.new ≡ set.image) × (changed.new ≡ set.changed) }
+    ensures { let set = rtc_set image.old utc_us granularity source tick changed.old in
+        (result ≡ set.returned) × (image.new ≡ set.image) × (changed.new ≡ set.changed) }
 {
-    set_by(
-        image,
-        granularity,
-        source,
-        changed,
-        |rtc, granularity, source| {
-            let set = rtc.set_utc_time(utc_us, granularity, source, tick);
-            (set.rtc, set.changed, UTC_REPORTED)
-        },
-    )
+    let call = |rtc: Rtc, granularity, source| {
+        let set = rtc.set_utc_time(utc_us, granularity, source, tick);
+        (set.rtc, set.changed, UTC_REPORTED)
+    };
+    set_by(image, granularity, source, changed, call)
 }
 
 // The same, and has the moment stored that is a day or more from the persisted one.
@@ -129,18 +129,14 @@ pub fn rtc_set_utc_time_persist(
     tick: u64,
     changed: &mut u64,
 ) -> u64
-    ensures { let set = rtc_set_persist image.old utc_us granularity source tick changed.old in (result ≡ set.returned) × (image.new ≡ set.image) × (changed.new ≡ set.changed) }
+    ensures { let set = rtc_set_persist image.old utc_us granularity source tick changed.old in
+        (result ≡ set.returned) × (image.new ≡ set.image) × (changed.new ≡ set.changed) }
 {
-    set_by(
-        image,
-        granularity,
-        source,
-        changed,
-        |rtc, granularity, source| {
-            let set = rtc.set_utc_time_persist(utc_us, granularity, source, tick);
-            (set.rtc, set.changed, codes::setting(set.stored))
-        },
-    )
+    let call = |rtc: Rtc, granularity, source| {
+        let set = rtc.set_utc_time_persist(utc_us, granularity, source, tick);
+        (set.rtc, set.changed, codes::setting(set.stored))
+    };
+    set_by(image, granularity, source, changed, call)
 }
 
 // ## Load and reset
@@ -157,7 +153,8 @@ pub fn load_clock(
     node_id: u64,
     endpoint: u16,
 ) -> u64
-    ensures { let loaded = load_clock image.old build (given has_moment moment) (source_by has_source fab_idx node_id endpoint) in (result ≡ loaded.returned) × (image.new ≡ loaded.image) }
+    ensures { let loaded = load_clock image.old build (given has_moment moment) (source_by has_source fab_idx node_id endpoint) in
+        (result ≡ loaded.returned) × (image.new ≡ loaded.image) }
 {
     if !is_image(image) {
         return codes::refusal(Refusal::BadLimits);
@@ -176,7 +173,8 @@ pub fn load_clock(
 // Resets the clock.
 #[tactic(auto, unfolding(crate::specs::Calls::clock_reset, model::specs::Handler::reset_clock, model::specs::Clock::reset_persist, model::specs::Codes::returned, model::specs::Bytes::number))]
 pub fn reset_clock(image: &mut [u8], build: u64) -> u64
-    ensures { let reset = reset_clock image.old build in (result ≡ reset.returned) × (image.new ≡ reset.image) }
+    ensures { let reset = reset_clock image.old build in
+        (result ≡ reset.returned) × (image.new ≡ reset.image) }
 {
     if !is_image(image) {
         return codes::refusal(Refusal::BadLimits);

@@ -23,34 +23,30 @@ fn check_lists(image: &[u8]) -> Result<(), Refusal>
     Ok(())
 }
 
-// A command on the lists by its call on the table, which takes the room for the record to store; the record is copied to the front of `out`.
-// How long it is.
+// A command on the lists by its call on the table, which takes the room for the record. The record is copied to the front of `out`, and its
+// length is answered.
 fn set_by<F: FnOnce(&mut [u8], usize) -> Result<(), Refusal>>(
     image: &mut [u8],
     out: &mut [u8],
-    set: F,
+    call: F,
 ) -> Result<usize, Refusal>
-    requires { F.IsAlwaysCallable set }
-    ensures { (says : List ℕ → ℕ → Result (Unit {0}) Refusal) (leaves : List ℕ → ℕ → List ℕ) → IsCall (λ t room said u. F.post set t room said u) says leaves
-        → Stores says leaves image.old out.old result image.new out.new }
+    requires { F.IsAlwaysCallable call }
+    ensures { (says : List ℕ → ℕ → Result (Unit {0}) Refusal) (leaves : List ℕ → ℕ → List ℕ)
+        → IsCall says leaves (λ t room said u. F.post call t room said u) → Stores says leaves image.old out.old result image.new out.new }
 {
     check_lists(image)?;
     let table = &mut image[TABLE..SIZE];
-    set(table, out.len())?;
+    call(table, out.len())?;
     table::write::put(table, out).ok_or(Refusal::NoSpace)
 }
 
 // SetTimeZone; the record to store is copied to the front of `out`, and `used` is its length.
-#[tactic(auto, unfolding(model::specs::Codes::returned, model::specs::Bytes::number, model::specs::Output::stores))]
 pub fn set_time_zone(image: &mut [u8], request: &[u8], out: &mut [u8], used: &mut u64) -> u64
     ensures { let set = set_time_zone image.old request.now out.old used.old in
         (result ≡ set.returned) × (image.new ≡ set.image) × (out.new ≡ set.out) × (used.new ≡ set.used) }
 {
-    match set_by(
-        image,
-        out,
-        |table, room| table::set_time_zone(table, request, room),
-    ) {
+    let call = |table: &mut [u8], room| table::set_time_zone(table, request, room);
+    match set_by(image, out, call) {
         Ok(n) => {
             *used = n as u64;
             TIME_ZONE_SET
@@ -60,16 +56,12 @@ pub fn set_time_zone(image: &mut [u8], request: &[u8], out: &mut [u8], used: &mu
 }
 
 // SetDSTOffset; the same.
-#[tactic(auto, unfolding(model::specs::Codes::returned, model::specs::Bytes::number, model::specs::Output::stores))]
 pub fn set_dst_offset(image: &mut [u8], request: &[u8], out: &mut [u8], used: &mut u64) -> u64
     ensures { let set = set_dst_offset image.old request.now out.old used.old in
         (result ≡ set.returned) × (image.new ≡ set.image) × (out.new ≡ set.out) × (used.new ≡ set.used) }
 {
-    match set_by(
-        image,
-        out,
-        |table, room| table::set_dst_offset(table, request, room),
-    ) {
+    let call = |table: &mut [u8], room| table::set_dst_offset(table, request, room);
+    match set_by(image, out, call) {
         Ok(n) => {
             *used = n as u64;
             DST_OFFSET_SET
@@ -96,7 +88,7 @@ pub fn load_lists(image: &mut [u8], there: u8, stored: &[u8]) -> u64
 }
 
 // Empties the lists.
-#[tactic(auto, unfolding(crate::specs::Calls::lists_reset, model::specs::Handler::reset_lists, model::specs::Store::factory_reset, model::specs::Codes::returned, model::specs::Bytes::number))]
+#[tactic(auto, unfolding(crate::specs::Calls::lists_reset, model::specs::Handler::reset_lists, model::specs::Codes::returned, model::specs::Bytes::number))]
 pub fn reset_lists(image: &mut [u8]) -> u64
     ensures { let reset = reset_lists image.old in (result ≡ reset.returned) × (image.new ≡ reset.image) }
 {

@@ -19,7 +19,8 @@ pub fn new(
     build: u64,
     period: u64,
 ) -> u64
-    ensures { let made = new image.old list_store zone_limit window_limit build period in (result ≡ made.returned) × (image.new ≡ made.image) }
+    ensures { let made = new image.old list_store zone_limit window_limit build period in
+        (result ≡ made.returned) × (image.new ≡ made.image) }
 {
     let limits = Limits::of(zone_limit, window_limit);
     if list_store != 0 && limits.is_none() || image.len() < SIZE {

@@ -1,5 +1,5 @@
 -- `lists::reset_lists` meets its contract.
-use Rattle.std.proofs.Common.{[], sym, ◌∙◌, arith}
+use Rattle.std.proofs.Common.{[], sym, arith}
 use Rattle.model.specs.Bytes.{number}
 use Rattle.model.specs.Codes.{returned}
 use Rattle.model.specs.Store as M
@@ -8,7 +8,7 @@ use Rattle.table.specs.Left.{reset_left}
 use Rattle.table.proofs.Follows.{lengths_stay}
 use Rattle.image.specs.Layout.{table_in}
 use Rattle.commands.specs.Calls.{lists_reset}
-use Rattle.commands.proofs.Told.{image_long, left_there, table_put}
+use Rattle.commands.proofs.Told.{image_long, table_put}
 use Rattle.commands.proofs.lists.reset_lists.Goals as goal
 
 pub slice_bounds-factory_reset-end : goal.slice_bounds-factory_reset-end
@@ -20,4 +20,4 @@ returns c =
     let s = c.args.image.now in
     let i = sym c.if-not-is_image.ensures in
     let h = sym c.if-not-has_lists.ensures in
-    (rw (i, h), rw c.factory_reset.ensures (table_put s (reset_left (table_in s)) i (lengths_stay (table_in s) [] 0).reset ∙ sym (left_there s (reset_left (table_in s)) i h)))
+    (rw (i, h), rw c.factory_reset.ensures (table_put s (reset_left (table_in s)) i h (lengths_stay (table_in s) [] 0).reset))

@@ -14,7 +14,8 @@ unfolding zones_set H.set_time_zone returned number
 returns-in-Ok c =
     let a = c.args in
     let b = a.request.now in
-    zones_end a.image.now b a.out.now a.used.now (are_bytes b (λ k. (c.type_inv.request k).fits)) (Ok c.in-Ok.n) c.set_by.new.image c.set_by.new.out
+    let w = are_bytes b (λ k. (c.type_inv.request k).fits) in
+    zones_end a.image.now b a.out.now a.used.now w (Ok c.in-Ok.n) c.set_by.new.image c.set_by.new.out
     (c.in-Ok.ensures (λ t n. time_zone_said t b n) (λ t n. time_zone_left t b n) (λ t n said u h. search rules))
 
 pub returns-in-Err : goal.returns-in-Err
@@ -22,7 +23,8 @@ unfolding zones_set H.set_time_zone
 returns-in-Err c =
     let a = c.args in
     let b = a.request.now in
+    let w = are_bytes b (λ k. (c.type_inv.request k).fits) in
     let k =
-    zones_end a.image.now b a.out.now a.used.now (are_bytes b (λ k. (c.type_inv.request k).fits)) (Err c.in-Err.cause) c.set_by.new.image c.set_by.new.out
+    zones_end a.image.now b a.out.now a.used.now w (Err c.in-Err.cause) c.set_by.new.image c.set_by.new.out
     (c.in-Err.ensures (λ t n. time_zone_said t b n) (λ t n. time_zone_left t b n) (λ t n said u h. search rules)) in
     (c.refusal.ensures ∙ k.0, k.1, k.2, k.3)
