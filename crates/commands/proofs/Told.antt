@@ -1,5 +1,5 @@
 -- What a call on the lists of an image answers and leaves, by what the call on its list store answers and leaves.
-use Rattle.std.proofs.Common.{true, false, cond, List, [], ◌≡◌, ℕ, ◌≤◌, Ok, Err, length, ◌∙◌, arith, le-ltb}
+use Rattle.std.proofs.Common.{true, false, cond, List, [], ◌≡◌, ℕ, ◌≤◌, Ok, Err, length, sym, ◌∙◌, arith, le-ltb}
 use borrow.Rule.Slice.PartMut.{put_mid}
 use Rattle.model.specs.declared.Refusal.{Refusal}
 use Rattle.model.specs.declared.Refusal.TheVariants.{NoSpace, CommandNotFound, BadLimits}
