@@ -22,6 +22,7 @@ fn put_all<P: Place>(table: &mut [u8], s: &[u8], from: usize, n: u8) -> usize
 }
 
 // Copies the n zones from `from` on to their places, and answers the place after them.
+#[tactic(auto, using(crate::proofs::Held::zones_whole, crate::proofs::Held::zones_put, crate::proofs::Held::zones_end))]
 pub(crate) fn put_zones(table: &mut [u8], s: &[u8], from: usize, n: u8) -> usize
     requires { Held zone_bytes s.now from n (zones_from s.now from n) }
     ensures { (table.new ≡ put_entries zone_place zone_bytes table.old 0 (zones_from s.now from n)) × (result ≡ from + length (all_bytes zone_bytes (zones_from s.now from n))) }
@@ -30,6 +31,7 @@ pub(crate) fn put_zones(table: &mut [u8], s: &[u8], from: usize, n: u8) -> usize
 }
 
 // Copies the n windows from `from` on to their places.
+#[tactic(auto, using(crate::proofs::Held::windows_whole, crate::proofs::Held::windows_put))]
 pub(crate) fn put_windows(table: &mut [u8], s: &[u8], from: usize, n: u8)
     requires { Held window_bytes s.now from n (windows_from s.now from n) }
     ensures { table.new ≡ put_entries window_place window_bytes table.old 0 (windows_from s.now from n) }

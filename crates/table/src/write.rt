@@ -24,6 +24,7 @@ fn section_length<P: Place>(places: &[P]) -> usize
 }
 
 // How many bytes the section of zones has.
+#[tactic(auto, using(crate::proofs::Listed::zones_long, crate::proofs::Bounds::zones_most))]
 pub(crate) fn zones_length(table: &[u8]) -> usize
     ensures { result ≡ length (zones_bytes (zones_in table.now)) }
 {
@@ -31,6 +32,7 @@ pub(crate) fn zones_length(table: &[u8]) -> usize
 }
 
 // How many bytes the record has.
+#[tactic(auto, using(crate::proofs::Listed::zones_long, crate::proofs::Listed::windows_long, crate::proofs::Bounds::zones_most, crate::proofs::Bounds::windows_most, crate::proofs::Bounds::record_parts))]
 fn record_length(table: &[u8]) -> usize
     ensures { result ≡ length (record_bytes (lists_in table.now)) }
 {
@@ -62,6 +64,7 @@ fn put_record(out: &mut [u8], table: &[u8]) -> usize
 
 // The record of a table, and its length; bytes that are no table have the record of empty lists. It is filled where the caller keeps it: a
 // copy of it by value would cost 1 KB of stack more.
+#[tactic(auto, using(crate::proofs::Bounds::record_most_lem, crate::proofs::Recorded::filled))]
 pub fn fill(made: &mut Record, table: &[u8])
     ensures { made.new ≡ W.record_of (lists_in table.now) }
 {
@@ -80,6 +83,7 @@ pub fn record(table: &[u8]) -> Record
 
 // The record of a table to the front of `out` where it has room, and its length; else nothing is written. Bytes that are no table have the
 // record of empty lists.
+#[tactic(auto, using(word::proofs::Writes::put_front), unfolding(model::specs::Store::record_of))]
 pub fn put(table: &[u8], out: &mut [u8]) -> Option<usize>
     ensures length { result ≡ cond (too_short (length out.old) (record_of (store_in table.now))) None (Some (length (record_of (store_in table.now)))) }
     ensures copied { out.new ≡ cond (too_short (length out.old) (record_of (store_in table.now))) out.old (copied_over (record_of (store_in table.now)) out.old) }
