@@ -1,7 +1,6 @@
 -- `rposition` over a slice: the last place that passes a test.
 use denote.Param.Members.{Mut}
-use Rattle.std.specs.Prelude.{None, Some, position}
-use Rattle.std.proofs.Common.{◌≡◌, refl, sym, ap, ◌∙◌, subst, ℕ, zero, suc, ◌+◌, ◌-◌, ◌<◌, Bool, true, false, cond, ltb, List, [], ◌∷◌, length, reverse, Option, Bor, Iter, MatchOption, option_map, unwrap_or, IfSome, take, drop, leb, ltb-true, ltb-false, lt-ltb, le-ltb, arith}
+use Rattle.std.proofs.Common.{◌≡◌, refl, sym, ap, ◌∙◌, subst, ℕ, zero, suc, ◌+◌, ◌-◌, ◌<◌, Bool, true, false, cond, ltb, List, [], ◌∷◌, length, reverse, Option, Bor, Iter, MatchOption, option_map, unwrap_or, IfSome, take, drop, leb, ltb-true, ltb-false, lt-ltb, le-ltb, arith, None, Some, position}
 use Rattle.std.proofs.lemmas.List.{reverse-append, length-reverse}
 use Rattle.std.proofs.lemmas.Iterator.{YieldsList}
 use Rattle.std.proofs.lemmas.Iterator.Consumers.{YieldsList-from_shown}

@@ -1,6 +1,5 @@
 -- Entries that stand one after another, by their indices.
-use Rattle.std.specs.Prelude.{None, Some, slice_get, IfSome}
-use Rattle.std.proofs.Common.{◌≡◌, refl, ap, ◌∙◌, ℕ, zero, suc, ◌+◌, ◌<◌, Bool, true, false, cond, ltb, ltb-true, ltb-false, lt-ltb, le-ltb, List, [], ◌∷◌, ◌++◌, map, Option, arith}
+use Rattle.std.proofs.Common.{◌≡◌, refl, ap, ◌∙◌, ℕ, zero, suc, ◌+◌, ◌<◌, Bool, true, false, cond, ltb, ltb-true, ltb-false, lt-ltb, le-ltb, List, [], ◌∷◌, ◌++◌, map, Option, arith, None, Some, slice_get, IfSome}
 use Rattle.model.specs.Basics.{keep, last}
 use Rattle.model.proofs.Facts.{by_test}
 use Rattle.table.specs.Layout.{entries_from}

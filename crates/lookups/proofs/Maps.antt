@@ -1,8 +1,5 @@
 -- A lookup among what the entries stand for is what the lookup among the entries stands for.
-use Rattle.std.specs.Prelude.{option_map}
-use mathlib.Core.Path.{◌≡◌, refl}
-use mathlib.Core.Bool.{Bool}
-use mathlib.Core.List.{List, [], ◌∷◌, map}
+use Rattle.std.proofs.Common.{◌≡◌, refl, Bool, List, [], ◌∷◌, map, option_map}
 use Rattle.model.specs.Basics.{keep, last}
 use Rattle.model.proofs.Facts.{by_test}
 

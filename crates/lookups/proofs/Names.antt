@@ -1,6 +1,5 @@
 -- A name that is shown stands inside the table.
-use Rattle.std.specs.Prelude.{None, Some}
-use Rattle.std.proofs.Common.{◌≡◌, ℕ, ◌+◌, ◌<◌, leb, ltb, eqb, ◌&&◌, List, Option, IfSome, ltb-true, arith}
+use Rattle.std.proofs.Common.{◌≡◌, ℕ, ◌+◌, ◌<◌, leb, ltb, eqb, ◌&&◌, List, Option, IfSome, ltb-true, arith, None, Some}
 use Rattle.model.proofs.Facts.{by_test}
 use Rattle.table.specs.Layout.{mark_at, zone_count_place, zone_place, zone_at, zone_count}
 use Rattle.table.proofs.Counts.{count_most, zone_stands}

@@ -1,10 +1,5 @@
 -- The walk by value holds the walk of the lists of a table.
-use mathlib.Core.List.{List}
-use mathlib.Core.Path.{◌≡◌, refl, sym, subst, ◌∙◌, ap}
-use Prim.Native.Nat.{ℕ, ◌+◌, ◌*◌, ◌≤◌}
-use native.Mathlib.Numerals.{add-one}
-use native.Mathlib.Omega.{arith}
-use lib.ListN.{length, take, length-take}
+use Rattle.std.proofs.Common.{◌≡◌, refl, sym, subst, ◌∙◌, ap, ℕ, ◌+◌, ◌*◌, ◌≤◌, List, length, take, length-take, add-one, arith}
 use Rattle.model.specs.Lookups.{boundaries}
 use Rattle.model.specs.Output.{moments_bytes}
 use Rattle.model.specs.Rules.{Rules}

@@ -1,10 +1,10 @@
 -- What is looked up in the places of the entries is what is looked up in the lists.
-use Rattle.std.specs.Prelude.{None, Some, slice_get}
-use Rattle.std.proofs.Common.{◌≡◌, refl, sym, ap, ◌∙◌, ℕ, suc, ◌≤◌, Bool, true, false, cond, ◌||◌, eqb, ℤ, List, [], ◌∷◌, ◌++◌, length, map, reverse, fold, Option, Bor, MatchOption, option_map, unwrap_or, arith, ne_eqb, ltb, eqb-true, eq-eqb, ltb-true, ltb-false, ◌+◌, min, take, drop, not, ◌==◌, is_some, IfSome}
+use Rattle.std.proofs.Common.{◌≡◌, refl, sym, ap, ◌∙◌, ℕ, suc, ◌≤◌, Bool, true, false, cond, ◌||◌, eqb, ℤ, List, [], ◌∷◌, ◌++◌, length, map, reverse, fold, Option, Bor, MatchOption, option_map, unwrap_or, arith, ne_eqb, ltb, eqb-true, eq-eqb, ltb-true, ltb-false, ◌+◌, min, take, drop, not, ◌==◌, is_some, IfSome, None, Some, slice_get}
 use Rattle.std.proofs.lemmas.List.{reverse-append}
 use Rattle.std.proofs.lemmas.List.Folds.{find-append, list_any-append}
 use Rattle.std.proofs.lemmas.Option.{slice_get_past, slice_get_read}
 use Rattle.std.specs.List.{find, list_any}
+use Rattle.std.specs.Bool.{then_some}
 use Rattle.std.specs.Slice.{IsItemAt}
 use Rattle.std.specs.Option.{option_or, IsSomeAnd}
 use Rattle.model.specs.Basics.{keep, any, first, last}
@@ -16,12 +16,14 @@ use Rattle.table.specs.Layout.{zone_place, window_place, zone_count, window_coun
 use Rattle.table.proofs.Counts.{zone_stands, window_stands}
 use Rattle.table.proofs.Places.{byte_in, lists_by_places, zone_in_place, window_in_place}
 use Rattle.record.specs.declared.NamePlace.{NamePlace}
+use Rattle.lookups.specs.declared.DSTOffsetEntry.{DSTOffsetEntry}
 use Rattle.lookups.specs.declared.ZoneShown.{ZoneShown}
 use Rattle.lookups.specs.Shown.{blank_shown, window_shown, window_listed_in, zone_there, zone_listed_in}
 use Rattle.lookups.specs.Transitions.{sooner, soonest}
 use Rattle.lookups.proofs.Entries.{listed}
 use Rattle.lookups.proofs.Soonest.{past_end}
 
+-- the zone and the window in a place
 abbrev pub zone_of : List ℕ → Zone
 zone_of p = zone_at p 0
 
@@ -57,12 +59,12 @@ module _ {A B : Type 0} (f : A → B) where
     abbrev pub passes : A → Bool
     passes x = test (f x)
 
-    pub first_found : (xs : List A) → option_map f (find passes xs) ≡ first (keep test (map f xs))
+    first_found : (xs : List A) → option_map f (find passes xs) ≡ first (keep test (map f xs))
     unfolding first keep
     first_found [] = refl
     first_found (x ∷ xs) = by_test (passes x) (λ e. rw e refl) (λ e. rw e (first_found xs))
 
-    pub last_found : (xs : List A) → option_map f (find passes (reverse xs)) ≡ last (keep test (map f xs))
+    last_found : (xs : List A) → option_map f (find passes (reverse xs)) ≡ last (keep test (map f xs))
     unfolding last keep
     last_found [] = refl
     last_found (x ∷ xs) =
@@ -70,7 +72,7 @@ module _ {A B : Type 0} (f : A → B) where
         ∙ or_map (find passes (reverse xs)) (find passes (x ∷ [])) ∙ ap (λ o. option_or o (option_map f (find passes (x ∷ [])))) (last_found xs)
         ∙ by_test (passes x) (λ e. rw e (sym (last_cons (f x) (keep test (map f xs))))) (λ e. rw e (or_none (last (keep test (map f xs)))))
 
-    pub any_found : (xs : List A) → list_any passes (reverse xs) ≡ any test (map f xs)
+    any_found : (xs : List A) → list_any passes (reverse xs) ≡ any test (map f xs)
     unfolding any
     any_found [] = refl
     any_found (x ∷ xs) =
@@ -86,7 +88,7 @@ module _ {A B : Type 0} (f : A → B) where
 -- ## The soonest moment
 
 module _ (utc : ℕ) where
-  -- a zone and a window more
+  -- a start more, and the two moments of a window more
   abbrev pub past_start : ℕ → List ℕ → ℕ
   past_start best p = sooner utc best (word_at 8 p 4)
 
@@ -113,10 +115,10 @@ module _ (utc : ℕ) where
 -- ## Windows
 
 module _ (s : List ℕ) where
-  pub windows_are : windows_in s ≡ map window_of (window_places s)
+  windows_are : windows_in s ≡ map window_of (window_places s)
   windows_are = (lists_by_places s).windows
 
-  -- a window that is found in its place
+  -- windows that are found in their places
   module _ (test : Window → Bool) where
     pub first_window : option_map window_of (find (passes window_of test) (window_places s)) ≡ first (keep test (windows_in s))
     first_window = first_found window_of test (window_places s) ∙ ap (λ ws. first (keep test ws)) (sym windows_are)
@@ -169,9 +171,11 @@ window_listed_is s i =
     rw t (ap (λ w. Some (window_shown w)) (sym (window_in_place s (window_place i) (omega (arith, h.0, h.1))))))
     (λ t. rw t refl)
 
-pub window_read : (s : List ℕ) (ps : List (List ℕ)) (i : ℕ) (r : Option (Bor (List ℕ))) → ps ≡ window_places s → IsItemAt ps i r
-    → option_map (λ y. window_shown (window_of y.now)) r ≡ window_listed_in s i
-window_read s ps i r e k = item (λ p. window_shown (window_of p)) ps (window_places s) i r e k ∙ window_listed_is s i
+pub window_read : (s : List ℕ) (ps : List (List ℕ)) (i : ℕ) (r : Option (Bor (List ℕ))) (o : Option DSTOffsetEntry) → ps ≡ window_places s → IsItemAt ps i r
+    → MatchOption r (o ≡ None) (λ x. IsSomeAnd o (λ w. w ≡ window_shown (window_of x.now))) → o ≡ window_listed_in s i
+window_read s ps i r o e k m =
+    made (λ y. window_shown (window_of y.now)) (λ x w. w ≡ window_shown (window_of x.now)) r o m (λ x w h. h)
+    ∙ item (λ p. window_shown (window_of p)) ps (window_places s) i r e k ∙ window_listed_is s i
 
 -- the zone with an index, by its place
 abbrev pub name_made : ℕ → ℕ → ℕ → Option NamePlace
@@ -204,25 +208,28 @@ pub zone_read : (s : List ℕ) (ps : List (List ℕ)) (i : ℕ) (r : Option (Bor
     → option_map (λ y. zone_shown i y.now) r ≡ zone_there s i
 zone_read s ps i r e k = item (zone_shown i) ps (zone_places s) i r e k ∙ zone_there_is s i
 
--- what `then` answers
-pub then_made : {X : Type 0} (b : Bool) (x : X) (r : Option X) → is_some r ≡ b → IfSome r (λ y. y ≡ x) → r ≡ cond b (Some x) None
-then_made b x None e h = ap (λ d. cond d (Some x) None) e
-then_made b x (Some y) e h = ap Some h ∙ ap (λ d. cond d (Some x) None) e
-
 pub shown_parts : {o o' : ℤ} {t t' : ℕ} {n n' : Option NamePlace} → o ≡ o' → t ≡ t' → n ≡ n'
     → ◌≡◌ {A = ZoneShown} (record { offset = o; valid_at = t; name = n }) (record { offset = o'; valid_at = t'; name = n' })
 shown_parts p q r = cc
 
+-- a name that is made where the mark is set
+pub named : (i : ℕ) (p : List ℕ) (r : Option NamePlace) → is_some r ≡ not (byte_at p 12 == 0) → IfSome r (λ n. n ≡ record { at = zone_place i + 14; len = min (byte_at p 13) 64 })
+    → r ≡ name_made i (byte_at p 12) (byte_at p 13)
+named i p None e h = rw (sym e) refl
+named i p (Some n) e h = rw (sym e) (ap Some h)
+
 -- an empty list shows one zone
-pub listed_is : (s : List ℕ) (i : ℕ) (r o : Option ZoneShown) → r ≡ zone_there s i → o ≡ cond (eqb i 0) (Some blank_shown) None → option_or r o ≡ zone_listed_in s i
+pub listed_is : (s : List ℕ) (i : ℕ) (z : ZoneShown) (r o m : Option ZoneShown) → z ≡ blank_shown → r ≡ zone_there s i → o ≡ then_some (eqb i 0) z → m ≡ option_or r o
+    → m ≡ zone_listed_in s i
 unfolding zone_there zone_listed_in
-listed_is s i r o e k =
+listed_is s i z r o m b e k l =
     let n = zone_count s in
-    rw (e, k)
+    l
+    ∙ rw (e, k)
     (by_test (ltb i n)
     (λ t. rw t refl)
     (λ t.
     let h = ltb-false i n t in
     by_test (eqb i 0)
-    (λ u. let z = eqb-true i 0 u in rw (t, u, eq-eqb n 0 (omega arith)) refl)
+    (λ u. let z = eqb-true i 0 u in rw (t, u, eq-eqb n 0 (omega arith)) (ap Some b))
     (λ u. by_test (eqb n 0) (λ v. rw (t, u, v) refl) (λ v. rw (t, u, v) refl))))

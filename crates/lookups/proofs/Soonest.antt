@@ -1,11 +1,5 @@
 -- The soonest moment after now, as a loop finds it in the places of the entries: the best so far, and what is left.
-use Rattle.std.specs.Prelude.{Option, None, Some, unwrap_or}
-use mathlib.Core.List.{List, [], ◌∷◌, ◌++◌}
-use mathlib.Core.Path.{◌≡◌, refl, ◌∙◌, ap}
-use Prim.Native.Nat.{ℕ, ◌<◌, min}
-use native.Mathlib.Omega.{arith}
-use lib.Dec.{ltb}
-use borrow.Author.Tests.{ltb-true, le-ltb, ne_eqb}
+use Rattle.std.proofs.Common.{◌≡◌, refl, ◌∙◌, ap, ℕ, ◌<◌, min, List, [], ◌∷◌, ◌++◌, ltb, ltb-true, le-ltb, ne_eqb, arith, Option, None, Some, unwrap_or}
 use Rattle.model.specs.Basics.{keep, least_of, smallest}
 use Rattle.model.specs.Lookups.{later, end_then}
 use Rattle.model.proofs.Facts.{by_test}

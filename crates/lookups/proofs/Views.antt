@@ -1,6 +1,5 @@
 -- What is shown and listed of a table is what is defined on its lists.
-use Rattle.std.specs.Prelude.{None, Some, slice_get}
-use Rattle.std.proofs.Common.{◌≡◌, refl, sym, ◌∙◌, ap, ℕ, zero, suc, ◌+◌, ◌≤◌, min, Bool, true, false, cond, ltb, eqb, List, length, take, drop, Option, option_map, leb, le-ltb, ne_eqb, arith}
+use Rattle.std.proofs.Common.{◌≡◌, refl, sym, ◌∙◌, ap, ℕ, zero, suc, ◌+◌, ◌≤◌, min, Bool, true, false, cond, ltb, eqb, List, length, take, drop, Option, option_map, leb, le-ltb, ne_eqb, arith, None, Some, slice_get}
 use Rattle.model.specs.Basics.{keep, last}
 use Rattle.model.specs.Lists.{Name, Zone}
 use Rattle.model.specs.Lookups as L

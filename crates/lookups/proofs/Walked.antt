@@ -1,11 +1,7 @@
 -- The walk so far: the moments behind, and the walk that is left.
-use Rattle.std.specs.Prelude.{Option, None, Some}
-use mathlib.Core.List.{List, [], ◌∷◌, ◌++◌}
-use mathlib.Core.Path.{◌≡◌, refl, sym, ◌∙◌, ap}
-use Prim.Native.Nat.{ℕ, zero, suc, ◌+◌, ◌*◌, ◌-◌, ◌≤◌, ◌<◌}
-use native.Mathlib.Omega.{arith}
-use lib.ListN.{length, take, set, replicate, length-append}
-use lib.Seq.{append_snoc, set_at, take_all, take_at}
+use Rattle.std.proofs.Common.{◌≡◌, refl, sym, ◌∙◌, ap, ℕ, zero, suc, ◌+◌, ◌*◌, ◌-◌, ◌≤◌, ◌<◌, List, [], ◌∷◌, ◌++◌, length, take, set, replicate, length-append, take_all, take_at, arith, Option, None, Some}
+use Rattle.std.proofs.Math.Seq.{append_snoc}
+use Rattle.std.proofs.lemmas.List.{set_at}
 use Rattle.model.specs.Lists.{Zone, Window, Lists}
 use Rattle.model.specs.Lookups.{boundaries, end_then, zone_starts, window_bounds, next_transition}
 use Rattle.model.specs.Rules.{Rules}

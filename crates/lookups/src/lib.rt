@@ -1,4 +1,5 @@
-// What is looked up in the lists of a table, in their places: nothing is copied.
+// What is looked up in the lists of a table, in their places: nothing is copied. A place is an array, so the tests of the readers of numbers
+// are left out of what is compiled.
 #![tactic(auto)]
 
 pub mod transitions;
@@ -10,6 +11,9 @@ ghost use Rattle.lookups.specs.Laws.{shown_name};
 
 pub use record::NamePlace;
 use table::layout::{MOST_WINDOWS, MOST_ZONES};
+
+// Where the offset of an entry stands in its place.
+const OFFSET: usize = 0;
 
 // A zone, its name by its place in the table; by default none: offset 0 from moment 0 with no name.
 #[derive(Clone, Copy, Default)]

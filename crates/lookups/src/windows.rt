@@ -4,7 +4,7 @@ ghost use Rattle.model.specs.Lookups.{is_active, is_usable, active_offset, last_
 ghost use Rattle.table.specs.Layout.{window_at, lists_in};
 ghost use Rattle.lookups.specs.Shown.{window_shown, window_listed_in};
 
-use crate::DSTOffsetEntry;
+use crate::{DSTOffsetEntry, OFFSET};
 use table::layout::{END, MARK, START, WINDOW_SIZE, windows};
 use word::or_zero::{i32_at, u64_at};
 
@@ -37,7 +37,7 @@ fn window_shown(place: &[u8; WINDOW_SIZE]) -> DSTOffsetEntry
     ensures { result ≡ window_shown (window_at place.now 0) }
 {
     DSTOffsetEntry {
-        offset: i32_at(place, 0),
+        offset: i32_at(place, OFFSET),
         valid_starting: u64_at(place, START),
         valid_until: window_end(place),
     }
@@ -48,7 +48,7 @@ pub fn active_dst_offset(table: &[u8], utc: u64) -> Option<i32>
     ensures { result ≡ active_offset (lists_in table.now) utc }
 {
     let active = windows(table).iter().find(|place| is_active(place, utc));
-    active.map(|place| i32_at(place, 0))
+    active.map(|place| i32_at(place, OFFSET))
 }
 
 // The offset of the last active window, looked for from the end.
@@ -59,7 +59,7 @@ pub fn last_active_dst_offset(table: &[u8], utc: u64) -> Option<i32>
         .iter()
         .rev()
         .find(|place| is_active(place, utc));
-    active.map(|place| i32_at(place, 0))
+    active.map(|place| i32_at(place, OFFSET))
 }
 
 // Some window is open or ends after now, looked for from the end: the last window runs out last.

@@ -4,7 +4,7 @@ ghost use Rattle.model.specs.Lookups.{active_zone, started};
 ghost use Rattle.table.specs.Layout.{zone_at, lists_in};
 ghost use Rattle.lookups.specs.Shown.{shown_by, active_index, zone_there, zone_listed_in};
 
-use crate::{NamePlace, ZoneShown};
+use crate::{NamePlace, OFFSET, ZoneShown};
 use table::layout::{MARK, MOST_NAME, NAME, NAME_LENGTH, START, ZONE_SIZE, ZONES, zones};
 use word::or_zero::{i32_at, u64_at};
 
@@ -18,7 +18,7 @@ fn zone_shown(table: &[u8], i: usize) -> Option<ZoneShown>
         len: (place[NAME_LENGTH] as usize).min(MOST_NAME),
     });
     Some(ZoneShown {
-        offset: i32_at(place, 0),
+        offset: i32_at(place, OFFSET),
         valid_at: u64_at(place, START),
         name,
     })
@@ -52,9 +52,10 @@ pub fn zone_offset(table: &[u8], utc: u64) -> i32
 }
 
 // The listed zone at an index; an empty list shows one zone.
+#[tactic(auto, using(crate::proofs::Places::listed_is))]
 pub fn time_zone_at(table: &[u8], i: usize) -> Option<ZoneShown>
     ensures { result ≡ zone_listed_in table.now i }
 {
-    let blank = (i == 0).then(ZoneShown::default);
+    let blank = (i == 0).then_some(ZoneShown::default());
     zone_shown(table, i).or(blank)
 }

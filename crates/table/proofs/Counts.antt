@@ -1,6 +1,6 @@
 -- How many entries a table holds: as many as it says in a whole table, and none in a shorter slice.
 use Rattle.std.proofs.Common.{◌≡◌, ℕ, ◌<◌, ◌≤◌, min, leb, List, length, arith, le-leb, leb-true}
-use borrow.Author.Tests.{lt-leb}
+use Rattle.std.proofs.lemmas.Bool.{lt-leb}
 use Rattle.model.proofs.Facts.{by_test}
 use Rattle.word.specs.Place.{byte_at}
 use Rattle.table.specs.Layout.{table_size, zone_count_place, window_count_place, count_in, zone_count, window_count}

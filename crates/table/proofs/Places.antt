@@ -1,7 +1,6 @@
 -- The places in use: chunks of one size from the first place on, as many as there are entries.
 use Rattle.std.specs.Simd.{first_chunks}
-use Rattle.std.proofs.Common.{◌≡◌, ℕ, zero, suc, ◌+◌, ◌-◌, ◌*◌, ◌/◌, ◌<◌, ◌≤◌, List, [], ◌∷◌, length, slice_range, take, drop, refl, sym, ap, ◌∙◌, arith, drop-drop, map, min, not, cond, ◌==◌, get_or-take, get_or-drop, length-drop, length-take-le, le-leb}
-use Rattle.std.specs.Prelude.{None, Some}
+use Rattle.std.proofs.Common.{◌≡◌, ℕ, zero, suc, ◌+◌, ◌-◌, ◌*◌, ◌/◌, ◌<◌, ◌≤◌, List, [], ◌∷◌, length, slice_range, take, drop, refl, sym, ap, ◌∙◌, arith, drop-drop, map, min, not, cond, ◌==◌, get_or-take, get_or-drop, length-drop, length-take-le, le-leb, None, Some}
 use Rattle.std.proofs.lemmas.List.{take-take, drop-take}
 use Rattle.model.specs.Bytes.{number, signed}
 use Rattle.word.specs.Place.{byte_at, word_at}

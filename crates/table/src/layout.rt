@@ -1,9 +1,12 @@
 // The places of a table, and its small numbers.
-ghost use Rattle.std.specs.Prelude.{◌≡◌, ◌<◌};
+ghost use Rattle.std.specs.Prelude.{◌≡◌};
 ghost use Rattle.table.specs.Layout.{count_in, zone_count, window_count, zone_places, window_places, zone_limit_in, window_limit_in, generation_in, counted, new_table};
 ghost use Rattle.table.specs.Limits.{rules_of};
 
 use crate::Limits;
+// An entry stands in its place as in a record.
+pub(crate) use record::entry::ENDED;
+pub use record::entry::{END, MARK, MOST_NAME, NAME, NAME_LENGTH, START};
 use word::or_zero::u8_at;
 
 // How many bytes a table has.
@@ -34,32 +37,15 @@ pub const WINDOWS: usize = 656;
 
 pub const WINDOW_SIZE: usize = 24;
 
-// Inside a place: the start, the mark, and behind it a window's end, or the length of a zone's name and the name; where the mark is 0
-// an entry ends at END, and a window with an end at ENDED.
-pub const START: usize = 4;
-
-pub const MARK: usize = 12;
-
-pub const END: usize = 13;
-
-pub(crate) const ENDED: usize = 21;
-
-pub const NAME_LENGTH: usize = 13;
-
-pub const NAME: usize = 14;
-
-// The longest name.
-pub const MOST_NAME: usize = 64;
-
 // How many entries the count at `at` says: at most so many, and none in a slice that is shorter than a table.
+#[tactic(auto, using(crate::proofs::Counts::count_short, crate::proofs::Counts::count_whole))]
 fn count_at(table: &[u8], at: usize, most: usize) -> usize
-    requires { at < 16 }
     ensures { result ≡ count_in at most table.now }
 {
     if table.len() < SIZE {
         return 0;
     }
-    (table[at] as usize).min(most)
+    (u8_at(table, at) as usize).min(most)
 }
 
 // How many zones there are.

@@ -24,7 +24,7 @@ fn section_length<P: Place>(places: &[P]) -> usize
 }
 
 // How many bytes the section of zones has.
-#[tactic(auto, using(crate::proofs::Listed::zones_long, crate::proofs::Bounds::zones_most))]
+#[tactic(auto, using(crate::proofs::Listed::zones_long))]
 pub(crate) fn zones_length(table: &[u8]) -> usize
     ensures { result ≡ length (zones_bytes (zones_in table.now)) }
 {
@@ -32,11 +32,11 @@ pub(crate) fn zones_length(table: &[u8]) -> usize
 }
 
 // How many bytes the record has.
-#[tactic(auto, using(crate::proofs::Listed::zones_long, crate::proofs::Listed::windows_long, crate::proofs::Bounds::zones_most, crate::proofs::Bounds::windows_most, crate::proofs::Bounds::record_parts))]
+#[tactic(auto, using(crate::proofs::Listed::windows_long, crate::proofs::Bounds::record_parts))]
 fn record_length(table: &[u8]) -> usize
     ensures { result ≡ length (record_bytes (lists_in table.now)) }
 {
-    section_length(zones(table)) + section_length(windows(table))
+    zones_length(table) + section_length(windows(table))
 }
 
 // Writes the section of the entries in these places at `at`, and answers the place after it.
