@@ -10,8 +10,7 @@ use lib.ListN.{length, length-append, take, get_or}
 use Rattle.model.specs.Lists.{Lists}
 use Rattle.model.specs.Lookups.{active_zone, active_offset, usable}
 use Rattle.model.specs.Schedule.{decimal, signed_decimal, offset_or_dash, yes_or_no, space, new_line, line}
-use Rattle.text.proofs.Digits.{decimal_length}
-use Rattle.text.proofs.Signs.{signed_length}
+use Rattle.text.proofs.Digits.{decimal_length, signed_length}
 use Rattle.text.specs.declared.Writer.{Writer}
 use Rattle.text.specs.Written.{Wrote}
 use Rattle.word.proofs.Writes.{all_more}

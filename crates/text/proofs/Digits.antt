@@ -1,13 +1,6 @@
--- Decimal digits: as many as the number needs, and at most 20.
-use mathlib.Core.List.{List, [], ◌∷◌, ◌++◌}
-use mathlib.Core.Path.{◌≡◌, refl, sym, ap, subst, ◌∙◌}
-use Prim.Native.Nat.{ℕ, zero, suc, ◌+◌, ◌/◌, ◌%◌, ◌^◌, ◌≤◌, ◌<◌}
-use native.Mathlib.Nat.{div-lt_iff_lt-mul, zero-lt-suc, pow-suc}
-use native.Mathlib.Omega.{arith}
-use lib.Dec.{ltb}
-use lib.ListN.{length, length-append}
-use borrow.Author.Tests.{ltb-true, ltb-false, lt-ltb, le-ltb}
-use Rattle.model.specs.Schedule.{digits, decimal}
+-- Decimal digits: as many as the number needs, at most 20, and a sign before them.
+use Rattle.std.proofs.Common.{ℤ, pos, negsuc, List, [], ◌∷◌, ◌++◌, ◌≡◌, refl, sym, ap, subst, ◌∙◌, ℕ, zero, suc, ◌+◌, ◌/◌, ◌%◌, ◌^◌, ◌≤◌, ◌<◌, div-lt_iff_lt-mul, zero-lt-suc, pow-suc, arith, ltb, length, length-append, ltb-true, ltb-false, lt-ltb, le-ltb}
+use Rattle.model.specs.Schedule.{digits, decimal, signed_decimal}
 use Rattle.model.proofs.Facts.{by_test}
 
 -- the last digit
@@ -52,3 +45,8 @@ digits_length (suc m) n =
 pub decimal_length : (n : ℕ) → length (decimal n) ≤ 20
 unfolding decimal
 decimal_length n = digits_length 20 n
+
+-- with a sign
+pub signed_length : (z : ℤ) → length (signed_decimal z) ≤ 21
+signed_length (pos n) = omega (arith, decimal_length n)
+signed_length (negsuc n) = omega (arith, decimal_length (suc n))

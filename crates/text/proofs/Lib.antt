@@ -1,4 +1,3 @@
 pub mod Digits
 pub mod Runs
 pub mod Numbers
-pub mod Signs

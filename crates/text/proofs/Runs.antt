@@ -1,10 +1,6 @@
 -- Words one after another: what a writer leaves, the place after them, and how far it can be.
-use Rattle.std.proofs.Common.{◌≡◌, ℕ, ◌+◌, ◌≤◌, false, List, [], ◌++◌, length, take, drop, refl, sym, ap, subst, ◌∙◌, arith, append-nil, length-append}
-use native.Mathlib.Nat.{add-zero}
-use borrow.Author.Tests.{le-leb}
-use lib.ListN.{take-append-drop}
-use lib.Seq.{take_at}
-use Rattle.word.specs.Place.{fits_at, put}
+use Rattle.std.proofs.Common.{◌≡◌, ℕ, ◌+◌, ◌≤◌, List, [], ◌++◌, length, take, drop, refl, sym, ap, subst, ◌∙◌, arith, append-nil, length-append, add-zero, le-leb, take-append-drop, take_at}
+use Rattle.word.specs.Place.{put}
 use Rattle.word.proofs.Laws.{length_put, put_put}
 use Rattle.word.proofs.Places.{placed_there}
 use Rattle.text.specs.declared.Writer.{Writer}
@@ -14,11 +10,6 @@ use Rattle.text.specs.Written.{after, Wrote}
 pub after_there : (s : List ℕ) (at : ℕ) (bs : List ℕ) → at + length bs ≤ length s → after s at bs ≡ at + length bs
 unfolding after
 after_there s at bs h = rw (le-leb (at + length bs) (length s) h)
-
--- the place after bytes that do not fit
-pub after_short : (s : List ℕ) (at : ℕ) (bs : List ℕ) → fits_at s at (length bs) ≡ false → after s at bs ≡ at
-unfolding after
-after_short s at bs h = rw h
 
 -- the same bytes
 pub wrote_as : {w v : Writer} {bs cs : List ℕ} → bs ≡ cs → Wrote w v bs → Wrote w v cs

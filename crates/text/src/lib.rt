@@ -1,10 +1,9 @@
 // ASCII text at a place of lent bytes. Every public function is total: what does not fit stores nothing, and the place stays.
 #![tactic(auto)]
 
-ghost use Rattle.std.specs.Prelude.{◌≡◌, ◌+◌, ◌≤◌, length, take};
+ghost use Rattle.std.specs.Prelude.{◌≡◌, ◌+◌, ◌≤◌, ◌++◌, length, take};
 ghost use Rattle.model.specs.Schedule.{decimal, signed_decimal};
-ghost use Rattle.word.specs.Place.{placed};
-ghost use Rattle.text.specs.Written.{after, Wrote};
+ghost use Rattle.text.specs.Written.{Wrote};
 
 // The most digits of a 64-bit number.
 const MOST_DIGITS: usize = 20;
@@ -45,11 +44,13 @@ impl<'a> Writer<'a> {
     }
 
     // Writes a word as it is.
+    #[tactic(auto, unfolding(crate::specs::Written::after))]
     pub fn word(&mut self, ascii: &[u8])
         ensures { Wrote self.old self.new ascii.now }
     {
-        let at = self.at;
-        self.at = put_word(self.out, at, ascii);
+        if word::put(self.out, self.at, ascii) {
+            self.at += ascii.len();
+        }
     }
 
     // Writes the digits of a number where there is room for the most digits, the front ones first.
@@ -65,40 +66,30 @@ impl<'a> Writer<'a> {
         self.word(&[b'0' + (n % 10) as u8]);
     }
 
+    // Writes a sign and the digits of a number, as one word.
+    fn number(&mut self, sign: &[u8], n: u64)
+        requires { length sign.now ≤ 1 }
+        ensures { Wrote self.old self.new (sign.now ++ decimal n) }
+    {
+        let mut memory = [0u8; MOST_SIGNED];
+        let mut number = Writer::new(&mut memory, 0);
+        number.word(sign);
+        number.digits(n);
+        self.word(number.written());
+    }
+
     // Writes a number in decimal.
     pub fn decimal(&mut self, n: u64)
         ensures { Wrote self.old self.new (decimal n) }
     {
-        let mut memory = [0u8; MOST_DIGITS];
-        let mut number = Writer::new(&mut memory, 0);
-        number.digits(n);
-        self.word(number.written());
+        self.number(b"", n);
     }
 
     // Writes a signed number in decimal, with `-` before a negative one.
     pub fn signed(&mut self, z: i32)
         ensures { Wrote self.old self.new (signed_decimal z) }
     {
-        let n = z.unsigned_abs() as u64;
-        if 0 <= z {
-            return self.decimal(n);
-        }
-        let mut memory = [0u8; MOST_SIGNED];
-        let mut number = Writer::new(&mut memory, 0);
-        number.word(b"-");
-        number.digits(n);
-        self.word(number.written());
+        let sign: &[u8] = if z < 0 { b"-" } else { b"" };
+        self.number(sign, u64::from(z.unsigned_abs()));
     }
-}
-
-// Writes a word as it is, and answers the place after it.
-fn put_word(out: &mut [u8], at: usize, ascii: &[u8]) -> usize
-    ensures { (out.new ≡ placed out.old at ascii.now) × (result ≡ after out.old at ascii.now) }
-{
-    let n = ascii.len();
-    if word::in_bounds(out, at, n) {
-        out[at..at + n].copy_from_slice(ascii);
-        return at + n;
-    }
-    at
 }

@@ -1,6 +1,6 @@
 -- std's little-endian bytes and signed numbers are the model's.
-use Rattle.std.proofs.Common.{List, [], ◌∷◌, ◌≡◌, refl, sym, ap, ◌∙◌, ℕ, zero, suc, ◌+◌, ◌*◌, ◌/◌, ◌%◌, ◌^◌, ℤ, pos, negsuc, length, slice_index, arith}
-use native.Mathlib.Nat.{div-one, div-div-eq-div-mul, pow-suc, mul_assoc, mul_comm}
+use Rattle.std.proofs.Common.{List, [], ◌∷◌, ◌≡◌, refl, sym, ap, ◌∙◌, ℕ, zero, suc, ◌+◌, ◌*◌, ◌/◌, ◌%◌, ◌^◌, ℤ, pos, negsuc, length, slice_index, arith, div-one, pow-suc, mul_assoc, mul_comm}
+use Rattle.std.proofs.Math.Nat.{div-div-eq-div-mul}
 use Rattle.std.specs.Int.{w32, byte_at, byte_worth, bytes_low_first, sum_through, cast_signed, cast_unsigned}
 use Rattle.model.specs.Bytes.{bytes, number, signed, bits_of}
 

@@ -1,13 +1,9 @@
 -- What stays, and what stands there, where bytes are written at a place.
-use mathlib.Core.List.{List, [], ◌∷◌, ◌++◌, append_assoc, append-nil}
-use mathlib.Core.Path.{◌≡◌, refl, sym, ap, ◌∙◌}
-use Prim.Native.Nat.{ℕ, zero, suc, ◌+◌, ◌-◌, ◌^◌, ◌≤◌, ◌<◌}
-use native.Mathlib.Omega.{arith}
-use borrow.Author.Tests.{le-leb, lt-leb, leb-true, leb-false}
+use Rattle.std.proofs.Common.{List, [], ◌∷◌, ◌++◌, append_assoc, append-nil, ◌≡◌, refl, sym, ap, ◌∙◌, ℕ, zero, suc, ◌+◌, ◌-◌, ◌^◌, ◌≤◌, ◌<◌, arith, le-leb, leb-true, leb-false, leb, length, take, drop, get_or, length-append, length-drop, length-take-le, take-take, drop-drop, take_at, drop_at, get_or-take, get_or-drop}
+use Rattle.std.proofs.lemmas.Bool.{lt-leb}
+use Rattle.std.proofs.Math.ListN.{get_or-append}
+use Rattle.std.proofs.Math.Seq.{take-nil, drop-nil, take-append-le, drop-append-le, drop-length}
 use borrow.Rule.Slice.PartMut.{put_mid}
-use lib.Dec.{leb}
-use lib.ListN.{length, take, drop, get_or, length-append, length-drop, get_or-append}
-use lib.Seq.{length-take-le, take-take, drop-drop, take-nil, drop-nil, take-append-le, drop-append-le, drop-length, take_at, drop_at, get_or-take, get_or-drop}
 use Rattle.model.specs.Bytes.{bytes, number}
 use Rattle.model.proofs.Facts.{by_test}
 use Rattle.model.proofs.Words.{length_bytes, number_bytes}

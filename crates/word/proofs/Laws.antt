@@ -1,11 +1,6 @@
 -- A run of writes at a place.
-use Prim.Native.Nat.{ℕ, suc, ◌+◌, ◌≤◌, ◌<◌}
-use mathlib.Core.Path.{◌≡◌, sym, ap, ◌∙◌}
-use mathlib.Core.List.{List, [], ◌∷◌, ◌++◌, append_assoc}
-use native.Mathlib.Numerals.{add-one}
-use native.Mathlib.Omega.{arith}
-use lib.ListN.{length, take, drop, set, length-append, length-drop}
-use lib.Seq.{set_split, append_snoc, drop-drop, take_at, drop_at, length-take-le}
+use Rattle.std.proofs.Common.{ℕ, suc, ◌+◌, ◌≤◌, ◌<◌, ◌≡◌, sym, ap, ◌∙◌, List, [], ◌∷◌, ◌++◌, append_assoc, add-one, arith, length, take, drop, set, length-append, length-drop, drop-drop, take_at, drop_at, length-take-le}
+use Rattle.std.proofs.Math.Seq.{set_split, append_snoc}
 use Rattle.word.specs.Place.{put}
 
 -- ## A run of writes

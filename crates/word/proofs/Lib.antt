@@ -3,7 +3,6 @@ pub mod Rows
 pub mod Spelling
 pub mod Endian
 pub mod Parts
-pub mod Integers
 pub mod Places
 pub mod Answers
 pub mod Frame

@@ -1,14 +1,12 @@
 -- A part of some bytes: cut out, read as a number, and written.
-use Rattle.std.proofs.Common.{Bool, true, false, cond, List, ◌++◌, ◌≡◌, refl, sym, ap, ◌∙◌, ℕ, zero, suc, ◌+◌, ◌*◌, ◌-◌, ◌<◌, ◌≤◌, length, take, drop, slice_index, arith, Option, None, Some, Bor, append_assoc, drop-drop, le-leb, leb-true, MatchOption, option_map, option_copied, unwrap_or, length-drop, length-take-le}
+use Rattle.std.proofs.Common.{Bool, true, false, cond, List, ◌++◌, ◌≡◌, refl, sym, ap, ◌∙◌, ℕ, zero, suc, ◌+◌, ◌*◌, ◌<◌, ◌≤◌, length, take, drop, slice_index, arith, Option, None, Some, Bor, append_assoc, drop-drop, take-append-drop, le-leb, leb-true, MatchOption, option_map, option_copied, unwrap_or, length-drop, length-take-le}
 use Rattle.std.proofs.lemmas.Bool.{lt-leb}
 use Rattle.std.specs.Array.{IsFirstChunk}
-use Rattle.std.proofs.Math.Seq.{take-add}
 use Rattle.std.specs.Simd.{first_chunks}
 use Rattle.std.specs.Int.{byte_worth, bytes_low_first, sum_through}
-use borrow.Rule.Slice.PartMut.{put_mid}
 use Rattle.model.specs.Bytes.{bytes, all_bytes, number}
 use Rattle.model.proofs.Words.{length_bytes}
-use Rattle.word.specs.Place.{fits_at, part_at, number_at, word_at, put, placed}
+use Rattle.word.specs.Place.{fits_at, part_at, number_at, word_at, placed}
 use Rattle.word.proofs.Endian.{from_le, to_le}
 
 -- ## Cut out
@@ -71,14 +69,6 @@ read k s at bs p e q =
 
 -- ## Written
 
--- a part that was copied over, back in its place
-pub back : (s : List ℕ) (at : ℕ) (bs : List ℕ) → put_mid at (at + length bs - at) s bs ≡ put s at bs
-back s at bs =
-    let e : at + length bs - at ≡ length bs = omega arith in
-    ap (λ (n : ℕ). put_mid at n s bs) e
-    ∙ sym (append_assoc (take at s) bs (drop (length bs) (drop at s)))
-    ∙ ap (λ (l : List ℕ). take at s ++ bs ++ l) (drop-drop (length bs) at s)
-
 -- a number's bytes, the lowest first
 pub wrote_le : (k : ℕ) (s : List ℕ) (at v : ℕ) {bs out : List ℕ} {b : Bool} → bs ≡ bytes_low_first 0 k v
     → (b ≡ fits_at s at (length bs)) × (out ≡ placed s at bs) → (b ≡ fits_at s at k) × (out ≡ placed s at (bytes k v))
@@ -86,10 +76,14 @@ wrote_le k s at v e w =
     let p = e ∙ to_le k v in
     (w.0 ∙ ap (fits_at s at) (ap length p ∙ length_bytes k v), w.1 ∙ ap (placed s at) p)
 
--- words one after another are the bytes that they were cut from
-pub words_joined : (n k : ℕ) (xs : List ℕ) → all_bytes (λ (w : List ℕ). w) (first_chunks n k xs) ≡ take (k * n) xs
+-- words one after another, and the bytes behind them, are the bytes that they were cut from
+pub words_and_rest : (n k : ℕ) (xs : List ℕ) → all_bytes (λ (w : List ℕ). w) (first_chunks n k xs) ++ drop (k * n) xs ≡ xs
 unfolding all_bytes
-words_joined n zero xs = let e : 0 * n ≡ 0 = omega arith in ap (λ (j : ℕ). take j xs) (sym e)
-words_joined n (suc k) xs =
-    let e : n + k * n ≡ suc k * n = omega arith in
-    ap (λ (l : List ℕ). take n xs ++ l) (words_joined n k (drop n xs)) ∙ sym (take-add n (k * n) xs) ∙ ap (λ (j : ℕ). take j xs) e
+words_and_rest n zero xs = let e : 0 * n ≡ 0 = omega arith in ap (λ (j : ℕ). drop j xs) e
+words_and_rest n (suc k) xs =
+    let e : suc k * n ≡ n + k * n = omega arith in
+    append_assoc (take n xs) (all_bytes (λ (w : List ℕ). w) (first_chunks n k (drop n xs))) (drop (suc k * n) xs)
+    ∙ ap (λ (l : List ℕ). take n xs ++ l)
+    (ap (λ (l : List ℕ). all_bytes (λ (w : List ℕ). w) (first_chunks n k (drop n xs)) ++ l) (ap (λ (j : ℕ). drop j xs) e ∙ sym (drop-drop (k * n) n xs))
+    ∙ words_and_rest n k (drop n xs))
+    ∙ take-append-drop n xs

@@ -1,17 +1,8 @@
 -- What stands at a place where the bytes fit, and where they do not.
-use Rattle.std.specs.Prelude.{None, Some}
-use mathlib.Core.Bool.{Bool, true, false, cond}
-use mathlib.Core.List.{List}
-use mathlib.Core.Path.{◌≡◌, refl, sym, ◌∙◌}
-use Prim.Native.Nat.{ℕ, ◌+◌, ◌-◌, ◌≤◌, ◌<◌}
-use native.Mathlib.Omega.{arith}
-use borrow.Author.Tests.{le-leb, lt-leb, leb-true, leb-false}
-use lib.Dec.{leb}
-use lib.ListN.{length, take, drop, length-drop}
-use lib.Seq.{drop-drop, length-take-le}
+use Rattle.std.proofs.Common.{None, Some, Bool, true, false, cond, List, ◌≡◌, refl, sym, ◌∙◌, ℕ, ◌+◌, ◌≤◌, ◌<◌, arith, le-leb, leb-true, length, take, drop, length-drop, drop-drop, length-take-le}
+use Rattle.std.proofs.lemmas.Bool.{lt-leb}
 use Rattle.model.specs.Bytes.{take_bytes, number, well_formed}
 use Rattle.word.specs.Place.{fits_at, number_at, text_at, put, placed, copied}
-use Rattle.model.proofs.Facts.{by_test}
 
 module _ (w : ℕ) (s : List ℕ) (at : ℕ) where
   -- where they fit, the bytes at a place are what a reader takes off the bytes from there on
@@ -27,21 +18,11 @@ module _ (w : ℕ) (s : List ℕ) (at : ℕ) where
       let l : length (drop at s) < w = omega (arith, length-drop at s) in
       rw (lt-leb w (length (drop at s)) l)
 
--- n is at most what is left after `at`
-pub room : (at n l : ℕ) → at ≤ l → leb n (l - at) ≡ leb (at + n) l
-room at n l h =
-    by_test (leb (at + n) l)
-    (λ e. let k = leb-true (at + n) l e in rw (e, le-leb n (l - at) (omega arith)))
-    (λ e. let k = leb-false (at + n) l e in rw (e, lt-leb n (l - at) (omega arith)))
-
 -- ## By what `in_bounds` answered
 
 module _ (w : ℕ) (s : List ℕ) (at : ℕ) {b : Bool} (f : b ≡ fits_at s at w) where
   pub fitting : b ≡ true → at + w ≤ length s
   fitting t = leb-true (at + w) (length s) (sym f ∙ t)
-
-  pub unfitting : b ≡ false → length s < at + w
-  unfitting t = leb-false (at + w) (length s) (sym f ∙ t)
 
   pub number_is : b ≡ true → number_at w s at ≡ Some (number (take w (drop at s)))
   unfolding number_at
@@ -50,14 +31,6 @@ module _ (w : ℕ) (s : List ℕ) (at : ℕ) {b : Bool} (f : b ≡ fits_at s at 
   pub number_none : b ≡ false → number_at w s at ≡ None
   unfolding number_at
   number_none t = rw (sym f ∙ t)
-
-  pub text_is : b ≡ true → text_at s at w ≡ well_formed (take w (drop at s))
-  unfolding text_at
-  text_is t = rw (sym f ∙ t)
-
-  pub text_none : b ≡ false → text_at s at w ≡ false
-  unfolding text_at
-  text_none t = rw (sym f ∙ t)
 
 -- a well-formed part is there
 pub text_there : (n : ℕ) (s : List ℕ) (at : ℕ) → text_at s at n ≡ true → (fits_at s at n ≡ true) × (well_formed (take n (drop at s)) ≡ true)
@@ -73,23 +46,7 @@ pub placed_there : (s : List ℕ) (at : ℕ) (bs : List ℕ) → at + length bs 
 unfolding placed
 placed_there s at bs h = rw (le-leb (at + length bs) (length s) h)
 
--- ## A part copied, by what `in_bounds` answered of both slices
-
-module _ (s : List ℕ) (at : ℕ) (t : List ℕ) (from n : ℕ) {a : Bool} (f : a ≡ fits_at t from n) where
-  pub copied_none : a ≡ false → copied s at t from n ≡ s
-  unfolding copied
-  copied_none p = rw (sym f ∙ p)
-
-  module _ (p : a ≡ true) {b : Bool} (g : b ≡ fits_at s at n) where
-    pub copied_is : b ≡ true → copied s at t from n ≡ put s at (take n (drop from t))
-    unfolding copied
-    copied_is q = rw (sym f ∙ p, sym g ∙ q)
-
-    pub copied_short : b ≡ false → copied s at t from n ≡ s
-    unfolding copied
-    copied_short q = rw (sym f ∙ p, sym g ∙ q)
-
--- where both have the bytes
+-- ## A part copied, where both have the bytes
 pub copied_there : (s : List ℕ) (at : ℕ) (t : List ℕ) (from n : ℕ) → from + n ≤ length t → at + n ≤ length s → copied s at t from n ≡ put s at (take n (drop from t))
 unfolding copied
 copied_there s at t from n h k = rw (le-leb (from + n) (length t) h, le-leb (at + n) (length s) k)

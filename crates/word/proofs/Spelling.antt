@@ -1,11 +1,5 @@
 -- The bytes at a place spell the number there, one after another.
-use mathlib.Core.List.{List, [], ◌∷◌}
-use mathlib.Core.Path.{◌≡◌, refl, sym, ap}
-use Prim.Native.Nat.{ℕ, zero, suc, ◌+◌, ◌≤◌}
-use native.Mathlib.Omega.{arith}
-use borrow.Author.Tests.{le-leb}
-use lib.ListN.{length, take, drop}
-use lib.Seq.{drop-cons}
+use Rattle.std.proofs.Common.{List, [], ◌∷◌, ◌≡◌, refl, sym, ap, ℕ, zero, suc, ◌+◌, ◌≤◌, arith, le-leb, length, take, drop, drop-cons}
 use Rattle.model.specs.Bytes.{number}
 use Rattle.word.specs.Place.{byte_at, word_at}
 

@@ -1,13 +1,6 @@
 -- A run of writes, one after another from a place on.
-use mathlib.Core.Bool.{false}
-use mathlib.Core.List.{List, [], ◌∷◌, ◌++◌, append_assoc, append-nil}
-use mathlib.Core.Path.{◌≡◌, refl, sym, ap, ◌∙◌}
-use Prim.Native.Nat.{ℕ, zero, suc, ◌+◌, ◌*◌, ◌-◌, ◌≤◌, ◌<◌}
-use native.Mathlib.Nat.{add-zero}
-use native.Mathlib.Numerals.{add-one}
-use native.Mathlib.Omega.{arith}
-use lib.ListN.{length, take, drop, set, get_or, replicate, length-append, take-append-drop, length-replicate}
-use lib.Seq.{take-suc}
+use Rattle.std.proofs.Common.{false, List, [], ◌∷◌, ◌++◌, append_assoc, append-nil, ◌≡◌, refl, sym, ap, ◌∙◌, ℕ, zero, suc, ◌+◌, ◌*◌, ◌-◌, ◌≤◌, ◌<◌, add-zero, add-one, arith, length, take, drop, set, get_or, replicate, length-append, take-append-drop, take-suc}
+use Rattle.std.proofs.Math.ListN.{length-replicate}
 use Rattle.model.specs.Bytes.{bytes, all_bytes}
 use Rattle.model.specs.Output.{copied_over}
 use Rattle.model.proofs.Words.{length_bytes}
@@ -82,29 +75,6 @@ module _ {A : Type 0} (entry_bytes : A → List ℕ) where
   unfolding all_bytes
   all_short most f [] = omega arith
   all_short most f (x ∷ l) = omega (arith, length-append (entry_bytes x) (all_bytes entry_bytes l), f x, all_short most f l)
-
--- ## Entries written one by one: the first `i` entries of `l` stand from `at` on, and the next one goes to `next`
-
-module _ {B : Type 0} (entry_bytes : B → List ℕ) (most : ℕ) (l : List B) (s : List ℕ) (at : ℕ) where
-  pub record Sofar (i : ℕ) (out : List ℕ) (next : ℕ) : Type 0 where
-    pub wrote : Wrote s at (all_bytes entry_bytes (take i l)) out
-    pub place : next ≡ at + length (all_bytes entry_bytes (take i l))
-    pub short : next ≤ at + most * i
-
-  pub sofar_start : at ≤ length s → Sofar 0 s at
-  unfolding all_bytes
-  sofar_start h = record { wrote = wrote_none h; place = omega arith; short = omega arith }
-
-  pub sofar_more : (i : ℕ) (out : List ℕ) (next : ℕ) (d e : B) (out' : List ℕ) (next' : ℕ) → Sofar i out next → i < length l → get_or l i d ≡ e
-      → out' ≡ put out next (entry_bytes e) → next' ≡ next + length (entry_bytes e) → next' ≤ next + most → next + most ≤ length s → Sofar (i + 1) out' next'
-  sofar_more i out next d e out' next' w h g q p m r =
-      let more : all_bytes entry_bytes (take i l) ++ entry_bytes e ≡ all_bytes entry_bytes (take (i + 1) l)
-      = ap (λ (x : B). all_bytes entry_bytes (take i l) ++ entry_bytes x) (sym g) ∙ sym (all_more entry_bytes l i d h) in
-      record {
-        wrote = wrote_as (wrote_put w.wrote (entry_bytes e) next out' w.place (omega arith) q) (all_bytes entry_bytes (take (i + 1) l)) more;
-        place = omega (arith, w.place, length-append (all_bytes entry_bytes (take i l)) (entry_bytes e), ap length more);
-        short = omega (arith, w.short);
-      }
 
 -- ## Numbers one after another
 

@@ -1,5 +1,5 @@
 -- What stands at a place of some bytes, and what they are after a number is written there.
-use Rattle.std.specs.Prelude.{Bool, false, ◌&&◌, cond, List, ◌++◌, ℕ, ◌+◌, leb, ℤ, length, take, drop, get_or, Option, None, Some}
+use Rattle.std.specs.Prelude.{Bool, false, ◌&&◌, cond, List, ◌++◌, ℕ, ◌+◌, leb, ℤ, length, take, drop, get_or, Option, None, Some, option_map}
 use Rattle.model.specs.Bytes.{number, signed, well_formed}
 
 -- n bytes stand at `at`
@@ -14,13 +14,9 @@ part_at n s at = cond (fits_at s at n) (Some (take n (drop at s))) None
 unfoldable pub number_at : ℕ → List ℕ → ℕ → Option ℕ
 number_at w s at = cond (fits_at s at w) (Some (number (take w (drop at s)))) None
 
-abbrev pub signed_of : Option ℕ → Option ℤ
-signed_of None = None
-signed_of (Some n) = Some (signed n)
-
 -- the offset at `at`
 abbrev pub signed_at : List ℕ → ℕ → Option ℤ
-signed_at s at = signed_of (number_at 4 s at)
+signed_at s at = option_map signed (number_at 4 s at)
 
 -- s with the bytes bs from `at` on
 abbrev pub put : List ℕ → ℕ → List ℕ → List ℕ

@@ -28,6 +28,7 @@ fn array_at<const N: usize>(s: &[u8], at: usize) -> Option<[u8; N]>
 }
 
 // Writes bytes at `at`, where they fit; answers whether they do. Beside `put`, for parts whose length the compiler knows: one store each.
+#[tactic(auto, unfolding(crate::specs::Place::placed))]
 fn put_bytes(out: &mut [u8], at: usize, part: &[u8]) -> bool
     ensures { (result ≡ fits_at out.old at (length part.now)) × (out.new ≡ placed out.old at part.now) }
 {
@@ -62,6 +63,7 @@ fn put_singly(out: &mut [u8], part: &[u8])
 
 // Writes bytes over others, as many, a word at a time. Not by one `copy_from_slice`: of a length that only the caller knows it asks for
 // memmove, and the archive for C asks for memcpy and memset alone; byte by byte alone, a listed entry takes more than the Rust's.
+#[tactic(auto, using(crate::proofs::Parts::words_and_rest))]
 fn put_over(out: &mut [u8], part: &[u8])
     requires { length out.old ≡ length part.now }
     ensures { out.new ≡ part.now }
@@ -73,6 +75,7 @@ fn put_over(out: &mut [u8], part: &[u8])
 }
 
 // Writes bytes at `at`, where they fit; answers whether they do.
+#[tactic(auto, unfolding(crate::specs::Place::placed))]
 pub fn put(out: &mut [u8], at: usize, part: &[u8]) -> bool
     ensures { (result ≡ fits_at out.old at (length part.now)) × (out.new ≡ placed out.old at part.now) }
 {
@@ -85,6 +88,7 @@ pub fn put(out: &mut [u8], at: usize, part: &[u8]) -> bool
 }
 
 // Copies n bytes of s from `from` on to `at`, where both slices have so many; else nothing.
+#[tactic(auto, using(crate::proofs::Places::copied_placed), unfolding(crate::specs::Place::copied))]
 pub fn copy(out: &mut [u8], at: usize, s: &[u8], from: usize, n: usize)
     ensures { out.new ≡ copied out.old at s.now from n }
 {
@@ -115,6 +119,7 @@ pub fn u32_at(s: &[u8], at: usize) -> Option<u32>
 }
 
 // The offset at `at`.
+#[tactic(auto, using(crate::proofs::Endian::to_signed))]
 pub fn i32_at(s: &[u8], at: usize) -> Option<i32>
     ensures { result ≡ signed_at s.now at }
 {
@@ -136,6 +141,7 @@ pub fn put_u32(out: &mut [u8], at: usize, v: u32) -> bool
 }
 
 // Writes an offset at `at`, where it fits; answers whether it does.
+#[tactic(auto, using(crate::proofs::Endian::to_bits))]
 pub fn put_i32(out: &mut [u8], at: usize, z: i32) -> bool
     ensures { (result ≡ fits_at out.old at 4) × (out.new ≡ placed out.old at (bytes 4 (bits_of z))) }
 {
@@ -153,6 +159,7 @@ fn put_numbers(out: &mut [u8], numbers: &[u64])
 }
 
 // Writes numbers at the front, 8 bytes each, where they fit; answers whether they do.
+#[tactic(auto, using(crate::proofs::Writes::length_numbers), unfolding(crate::specs::Place::placed))]
 pub fn put_u64s(out: &mut [u8], numbers: &[u64]) -> bool
     ensures { (result ≡ fits_at out.old 0 (8 * length numbers.now)) × (out.new ≡ placed out.old 0 (all_bytes (λ m. bytes 8 m) numbers.now)) }
 {

@@ -13,6 +13,7 @@ pub fn u8_at(s: &[u8], at: usize) -> u8
 }
 
 // The 16-bit number at `at`, or 0.
+#[tactic(auto, using(crate::proofs::Parts::word_of_number))]
 pub fn u16_at(s: &[u8], at: usize) -> u16
     ensures { result ≡ word_at 2 s.now at }
 {
@@ -20,6 +21,7 @@ pub fn u16_at(s: &[u8], at: usize) -> u16
 }
 
 // The 32-bit number at `at`, or 0.
+#[tactic(auto, using(crate::proofs::Parts::word_of_number))]
 pub fn u32_at(s: &[u8], at: usize) -> u32
     ensures { result ≡ word_at 4 s.now at }
 {
@@ -27,6 +29,7 @@ pub fn u32_at(s: &[u8], at: usize) -> u32
 }
 
 // The 64-bit number at `at`, or 0.
+#[tactic(auto, using(crate::proofs::Parts::word_of_number))]
 pub fn u64_at(s: &[u8], at: usize) -> u64
     ensures { result ≡ word_at 8 s.now at }
 {
@@ -34,6 +37,7 @@ pub fn u64_at(s: &[u8], at: usize) -> u64
 }
 
 // The offset at `at`, or 0.
+#[tactic(auto, using(crate::proofs::Endian::to_signed))]
 pub fn i32_at(s: &[u8], at: usize) -> i32
     ensures { result ≡ signed (word_at 4 s.now at) }
 {

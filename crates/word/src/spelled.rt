@@ -24,6 +24,7 @@ pub fn u64_of(a: u8, b: u8, c: u8, d: u8, e: u8, f: u8, g: u8, h: u8) -> u64
 }
 
 // The offset of four bytes.
+#[tactic(auto, using(crate::proofs::Endian::to_signed))]
 pub fn i32_of(a: u8, b: u8, c: u8, d: u8) -> i32
     ensures { result ≡ signed (number (a ∷ b ∷ c ∷ d ∷ [])) }
 {

@@ -42,6 +42,7 @@ fn after_first(first: u8, s: &[u8]) -> Option<&[u8]>
 }
 
 // Whether s is well-formed UTF-8, character by character.
+#[tactic(auto, using(crate::proofs::Rows::none_left))]
 fn characters(s: &[u8]) -> bool
     ensures { result ≡ well_formed s.now }
 {
@@ -56,6 +57,7 @@ fn characters(s: &[u8]) -> bool
 }
 
 // Whether s is well-formed UTF-8; most names are plain.
+#[tactic(auto, using(crate::proofs::Rows::ascii_text))]
 pub fn utf8(s: &[u8]) -> bool
     ensures { result ≡ well_formed s.now }
 {
@@ -63,6 +65,7 @@ pub fn utf8(s: &[u8]) -> bool
 }
 
 // Whether n bytes stand at `at` and are well-formed UTF-8.
+#[tactic(auto, unfolding(crate::specs::Place::text_at))]
 pub fn utf8_at(s: &[u8], at: usize, n: usize) -> bool
     ensures { result ≡ text_at s.now at n }
 {
