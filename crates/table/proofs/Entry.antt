@@ -4,7 +4,7 @@ use borrow.Rule.Slice.PartMut.{put_mid}
 use mir.Val.{bool_byte}
 use Rattle.model.specs.Bytes.{zone_bytes, window_bytes}
 use Rattle.word.specs.Place.{byte_at, put, placed}
-use Rattle.word.proofs.Parts.{back}
+use Rattle.word.proofs.Frame.{placed_part}
 use Rattle.word.proofs.Writes.{Wrote, wrote_none, wrote_put, wrote_placed, wrote_byte, same_length}
 use Rattle.table.specs.Layout.{mark_at, zone_at, window_at}
 use Rattle.table.specs.Held.{head_bytes}
@@ -15,8 +15,10 @@ byte_of true = refl
 byte_of false = refl
 
 -- a part that is written over as many bytes
-over : (s part bs : List ℕ) (at n : ℕ) → part ≡ bs → length bs ≡ n → put_mid at (at + n - at) s part ≡ put s at bs
-over s part bs at n e l = ap (λ (k : ℕ). put_mid at (at + k - at) s part) (sym (ap length e ∙ l)) ∙ back s at part ∙ ap (put s at) e
+over : (s part bs : List ℕ) (at n : ℕ) → part ≡ bs → length bs ≡ n → at + n ≤ length s → put_mid at (at + n - at) s part ≡ placed s at bs
+over s part bs at n e l h =
+    let k : at + n - at ≡ n = omega arith in
+    ap (λ (i : ℕ). put_mid at i s part) k ∙ placed_part s at n part (ap length e ∙ l) h ∙ ap (placed s at) e
 
 -- offset and start are written, and then the mark
 pub head_written : (p out part : List ℕ) (at m : ℕ) → 13 ≤ length p → at + 13 ≤ length out → part ≡ take 12 p → m ≡ bool_byte (mark_at p 12)
@@ -25,7 +27,7 @@ unfolding head_bytes
 head_written p out part at m l r q e =
     let k : length (take 12 p) ≡ 12 = length-take-le 12 p (omega arith) in
     let mid = put_mid at (at + 12 - at) out part in
-    let first : Wrote out at (take 12 p) mid = wrote_put (wrote_none (omega arith)) (take 12 p) at mid (omega arith) (omega arith) (over out part (take 12 p) at 12 q k) in
+    let first : Wrote out at (take 12 p) mid = wrote_placed (wrote_none (omega arith)) (take 12 p) at mid (omega arith) (omega arith) (over out part (take 12 p) at 12 q k (omega arith)) in
     (wrote_byte first m (at + 12) (set mid (at + 12) m) (omega arith) (omega arith) refl).is ∙ ap (λ (x : ℕ). put out at (take 12 p ++ (x ∷ []))) (e ∙ byte_of (mark_at p 12))
 
 module _ (p : List ℕ) (b : (i : ℕ) → get_or p i 0 < 256) (out : List ℕ) (at : ℕ) {head : List ℕ} (w : head ≡ put out at (head_bytes p)) where
@@ -57,8 +59,8 @@ module _ (p : List ℕ) (b : (i : ℕ) → get_or p i 0 < 256) (out : List ℕ) 
           long = long;
           kept = same_length first;
           all = λ out' f.
-            (wrote_placed next name (at + 14) out' (omega (arith, j)) (omega (arith, c)) (f ∙ ap (λ (i : ℕ). placed (set head (at + 13) n) (at + 14) (take i (drop 14 p))) q)).is
-            ∙ ap (put out at) (sym is);
+              (wrote_placed next name (at + 14) out' (omega (arith, j)) (omega (arith, c)) (f ∙ ap (λ (i : ℕ). placed (set head (at + 13) n) (at + 14) (take i (drop 14 p))) q)).is
+              ∙ ap (put out at) (sym is);
         }
 
   module _ (l : length p ≡ 24) (r : at + length (window_bytes (window_at p 0)) ≤ length out) where
@@ -84,6 +86,6 @@ module _ (p : List ℕ) (b : (i : ℕ) → get_or p i 0 < 256) (out : List ℕ) 
           long = long;
           kept = same_length first;
           all = λ part f.
-            ap (λ (k : ℕ). put_mid (at + 13) (k - (at + 13)) head part) q
-            ∙ (wrote_put first end (at + 13) _ (omega (arith, h)) (omega (arith, c)) (over head part end (at + 13) 8 f c)).is ∙ ap (put out at) (sym is);
+              ap (λ (k : ℕ). put_mid (at + 13) (k - (at + 13)) head part) q
+              ∙ (wrote_placed first end (at + 13) _ (omega (arith, h)) (omega (arith, c)) (over head part end (at + 13) 8 f c (omega (arith, same_length first)))).is ∙ ap (put out at) (sym is);
         }

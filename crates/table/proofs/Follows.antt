@@ -72,7 +72,7 @@ from_empties limit index before (w ∷ ws) =
     demanded _ R.ResourceExhausted _ refl (both (window_rule index before w) _ (rule_empties index before w) (from_empties limit (suc index) (Some w) ws))
 
 turned_down_lem : (v : M.Verdict) → Emptying v → (cause : Refusal) → v ≡ M.turned_down cause → empties cause ≡ true
-turned_down_lem M.accepted h cause e = let z : ◌≡◌ {A = ℕ} 0 1 = cc in absurd (omega arith)
+turned_down_lem M.accepted h cause e = cc
 turned_down_lem (M.turned_down other) h cause e = let q : other ≡ cause = cc in sym (ap empties q) ∙ h
 
 windows_empty : (r : Rules) (ws : List Window) (cause : Refusal) → test_windows r ws ≡ M.turned_down cause → empties cause ≡ true

@@ -1,6 +1,6 @@
 -- An entry that stands at a place as it is written: how long it is, and where the next one stands.
 use Rattle.std.specs.Prelude.{Option, None, Some}
-use Rattle.std.proofs.Common.{◌≡◌, ℕ, suc, ◌+◌, ◌≤◌, cond, eqb, List, [], ◌∷◌, ◌++◌, map, length, get_or, take, drop, pos, refl, sym, ap, subst, ◌∙◌, append_assoc, arith, length-append, length-drop, get_or-drop, drop-drop, take_at, drop_at, eq-eqb, ne_eqb}
+use Rattle.std.proofs.Common.{◌≡◌, ℕ, suc, ◌+◌, ◌≤◌, cond, eqb, List, [], ◌∷◌, ◌++◌, map, length, get_or, take, drop, refl, sym, ap, subst, ◌∙◌, append_assoc, arith, length-append, length-drop, get_or-drop, drop-drop, take_at, drop_at, eq-eqb, ne_eqb}
 use Rattle.model.specs.Lists.{Name, Zone, Window}
 use Rattle.model.specs.Bytes.{bytes, bits_of, name_bytes, until_bytes, zone_bytes, window_bytes, all_bytes}
 use Rattle.model.proofs.Words.{length_bytes}
@@ -138,6 +138,3 @@ module _ (t s : List ℕ) (from n : ℕ) where
 
     pub windows_put : put_entries window_place (λ bs. bs) t 0 (parts_from window_length_at s from n) ≡ put_entries window_place window_bytes t 0 xs
     windows_put = ap (put_entries window_place (λ bs. bs) t 0) windows_stand.parts ∙ by_bytes window_place window_bytes t 0 xs
-
-abbrev pub blank_zone : Zone
-blank_zone = record { offset = pos 0; start = 0; name = None }

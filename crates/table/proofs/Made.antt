@@ -1,7 +1,7 @@
 -- The bytes of a new table, and where one is made.
 use Rattle.std.specs.Prelude.{Ok, Err}
 use Rattle.std.proofs.Common.{◌≡◌, ℕ, ◌≤◌, Bool, true, false, ◌&&◌, leb, List, length, refl, arith, le-leb}
-use lib.ListN.{length-replicate}
+use Rattle.std.proofs.lemmas.List.{length-replicate}
 use Rattle.model.specs.declared.Refusal.TheVariants as R
 use Rattle.model.specs.Rules.{Rules, allowed}
 use Rattle.table.specs.Layout.{table_size, new_bytes, new_table}

@@ -1,6 +1,5 @@
 -- What an accepted record holds: its entries, as they are written.
-use Rattle.std.specs.Prelude.{Option, None, Some, Result, Ok}
-use Rattle.model.specs.declared.Refusal.{Refusal}
+use Rattle.std.specs.Prelude.{Option, None, Some, Ok}
 use Rattle.std.proofs.Common.{◌≡◌, ℕ, suc, ◌+◌, ◌<◌, List, [], ◌∷◌, ◌++◌, length, get_or, drop, sym, refl, ap, ◌∙◌, append-nil, arith, length-append, get_or-drop, drop-drop, drop_at, Fits, w8}
 use Rattle.model.specs.Lists.{Zone, Window, Lists}
 use Rattle.model.specs.Bytes.{zone_bytes, window_bytes, zones_bytes, windows_bytes, record_bytes, all_bytes, read_zone, read_window, read_all, read_section, read_windows, read_record}
@@ -12,7 +11,7 @@ use Rattle.word.specs.Place.{byte_at, placed}
 use Rattle.record.proofs.Suffix.{window_leaves}
 use Rattle.record.proofs.Meaning.{whole_is, section_read, record_means}
 use Rattle.rules.specs.Verdicts.{verdict_of, record_tested}
-use Rattle.table.specs.Layout.{zone_limit_in, window_limit_in, zone_count_place, window_count_place, zone_place, window_place, put_entries, with_zones, with_windows}
+use Rattle.table.specs.Layout.{zone_count_place, window_count_place, zone_place, window_place, put_entries, with_zones, with_windows}
 use Rattle.table.specs.Held.{found, Held, zones_from, windows_from}
 use Rattle.table.specs.Left.{lists_left}
 use Rattle.table.proofs.Requests.{are_bytes}
@@ -93,7 +92,7 @@ unfolding record_tested verdict
 record_stored_lem zones windows s b h = go (read_record s) refl h
   where
     go : (o : Option Lists) → read_record s ≡ o → verdict_of (record_verdict (record { zone_limit = zones; window_limit = windows }) o) ≡ (Ok tt) → Stored s
-    go None e k = let z : ◌≡◌ {A = ℕ} 0 1 = cc in absurd (omega arith)
+    go None e k = cc
     go (Some l) e k = stored s b l e
 
 -- ## A load, by the bytes and the counts that were read

@@ -1,8 +1,8 @@
 -- What an accepted request holds: its entries, as they are written.
 use Rattle.std.specs.Prelude.{Option, None, Some, Result, Ok, Err}
-use Rattle.std.proofs.Common.{◌≡◌, ℕ, suc, ◌<◌, Bool, true, false, cond, List, [], ◌∷◌, ◌++◌, length, get_or, drop, sym, refl, ap, subst, ◌∙◌, append-nil, arith, Fits, w8}
+use Rattle.std.proofs.Common.{◌≡◌, ℕ, suc, ◌<◌, Bool, false, cond, List, [], ◌∷◌, ◌++◌, length, get_or, drop, sym, refl, ap, ◌∙◌, append-nil, arith, Fits, w8}
 use Rattle.model.specs.declared.Refusal.{Refusal}
-use Rattle.model.specs.Lists.{Zone, Window}
+use Rattle.model.specs.Lists.{Window}
 use Rattle.model.specs.Bytes.{zone_bytes, window_bytes, zones_bytes, windows_bytes, all_bytes, read_zone, read_window, read_all, read_section, read_zones, read_windows}
 use Rattle.model.specs.Rules as M
 use Rattle.model.specs.RoundTrip.{AreBytes}
@@ -22,7 +22,7 @@ are_bytes (b ∷ s) f = (f 0, are_bytes s (λ i. f (suc i)))
 
 -- what is unreadable is not accepted
 readable : {A : Type 0} (limit : ℕ) (rule : ℕ → Option A → A → M.Verdict) (o : Option (List A)) → verdict_of (list_verdict limit rule o) ≡ (Ok tt) → (C : Type 0) → ((xs : List A) → o ≡ Some xs → C) → C
-readable limit rule None h C go = let z : ◌≡◌ {A = ℕ} 0 1 = cc in absurd (omega arith)
+readable limit rule None h C go = cc
 readable limit rule (Some xs) h C go = go xs refl
 
 -- the list of an accepted request, its count, and where its entries stand

@@ -1,8 +1,7 @@
 -- What is said of a request, by the length of the record that it would store.
 use Rattle.std.specs.Prelude.{None, Some, Result, Ok, Err}
-use Rattle.std.proofs.Common.{◌≡◌, ℕ, ◌+◌, ◌<◌, ◌≤◌, Bool, true, false, ltb, List, [], ◌∷◌, length, refl, sym, ap, ◌∙◌, arith, length-append, le-ltb, lt-ltb, get_or, Fits, w8}
+use Rattle.std.proofs.Common.{◌≡◌, ℕ, ◌+◌, Bool, ltb, List, [], ◌∷◌, length, sym, ap, ◌∙◌, arith, length-append, get_or, Fits, w8}
 use Rattle.model.specs.declared.Refusal.{Refusal}
-use Rattle.model.specs.declared.Refusal.TheVariants.{NoSpace}
 use Rattle.model.specs.Lists.{Zone, Window, Lists}
 use Rattle.model.specs.Bytes.{zones_bytes, windows_bytes, record_bytes, all_bytes, read_zones, read_windows}
 use Rattle.model.specs.Rules as M

@@ -1,6 +1,6 @@
 -- Entries of some kind copied one after another to their places.
 use Rattle.std.proofs.Common.{◌≡◌, ℕ, suc, ◌+◌, ◌-◌, ◌<◌, ◌≤◌, List, length, take, drop, sym, refl, ap, subst, ◌∙◌, arith, add-one}
-use native.Mathlib.Nat.{sub-zero}
+use Rattle.std.proofs.Math.Nat.{sub-zero}
 use Rattle.word.specs.Place.{placed}
 use Rattle.table.specs.Layout.{put_entries}
 use Rattle.table.specs.Held.{Whole, parts_from, end_of}

@@ -7,7 +7,7 @@ use Rattle.model.specs.RoundTrip.{AreBytes, ZonesFit, WindowsFit}
 use Rattle.model.specs.History.{SetTimeZone, SetDSTOffset, Load, FactoryReset}
 use Rattle.model.specs.Store.{store_after}
 use Rattle.model.specs.Output.{store_after_sized}
-use Rattle.table.specs.Layout.{table_size, zone_place, window_place, zone_at, window_at, zone_count, window_count, zone_places, window_places, zones_in, windows_in, store_in, with_zones, with_windows, new_table}
+use Rattle.table.specs.Layout.{table_size, zone_place, window_place, zone_at, window_at, zone_count, window_count, zone_places, window_places, zones_in, windows_in, lists_in, store_in, with_zones, with_windows, new_table}
 use Rattle.table.specs.Left.{time_zone_left, dst_offset_left, load_left, reset_left}
 
 -- ## The places in use
@@ -33,6 +33,10 @@ pub record ByPlaces (s : List ℕ) : Type 0 where
 -- `lists_by_places`
 abbrev pub ListsByPlaces : Type 0
 ListsByPlaces = (s : List ℕ) → ByPlaces s
+
+-- fewer bytes than a table has hold no entry: `no_lists` in proofs/Recorded.antt
+abbrev pub NoLists : Type 0
+NoLists = (s : List ℕ) → length s < table_size → lists_in s ≡ empty
 
 -- ## Lists that are written read back
 

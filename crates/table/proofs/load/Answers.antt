@@ -1,5 +1,5 @@
 -- The entries of an accepted record stand in it, the zones and then the windows.
-use Rattle.std.proofs.Common.{sym, ◌∙◌, ◌+◌, arith}
+use Rattle.std.proofs.Common.{sym, ◌∙◌, arith}
 use Rattle.table.proofs.Records.{stored_there, second_place}
 use Rattle.table.proofs.load.Goals as goal
 

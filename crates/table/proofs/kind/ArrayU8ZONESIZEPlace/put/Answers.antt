@@ -1,5 +1,5 @@
 -- A zone is written as its head, and its name where it has one.
-use Rattle.std.proofs.Common.{sym, ap, ◌∙◌, ◌+◌, arith}
+use Rattle.std.proofs.Common.{sym, ◌∙◌, arith}
 use Rattle.table.specs.Layout.{zone_at}
 use Rattle.table.proofs.Held.{zone_least}
 use Rattle.table.proofs.Entry.{Named, unnamed, named}
