@@ -5,7 +5,7 @@ use Rattle.model.specs.Lists.{Name, Zone, Window}
 use Rattle.model.specs.Bytes.{bytes, bits_of, name_bytes, until_bytes, zone_bytes, window_bytes, all_bytes}
 use Rattle.model.proofs.Words.{length_bytes}
 use Rattle.word.specs.Place.{byte_at, placed}
-use Rattle.table.specs.Layout.{zone_place, window_place, put_entries}
+use Rattle.table.specs.Layout.{zone_count_place, window_count_place, zone_place, window_place, put_entries, with_zones, with_windows}
 use Rattle.table.specs.Held.{zone_length_at, window_length_at, Held, Whole, parts_from, end_of}
 use Rattle.table.proofs.Parts.{entry_long}
 
@@ -115,7 +115,7 @@ module _ {A : Type 0} (entry_bytes : A → List ℕ) (length_at : List ℕ → �
   pub standing : (s : List ℕ) (at n : ℕ) (xs : List A) → Held entry_bytes s at n xs → Standing s at n xs
   standing s at n xs h = subst (λ (k : ℕ). Standing s at k xs) h.number (stand s at xs h.rest h.within h.is)
 
-module _ (t s : List ℕ) (from n : ℕ) where
+module _ (s : List ℕ) (from n : ℕ) where
   module _ (xs : List Zone) (h : Held zone_bytes s from n xs) where
     zones_stand : Standing zone_bytes zone_length_at zone_least zone_long s from n xs
     zones_stand = standing zone_bytes zone_length_at zone_least zone_long s from n xs h
@@ -123,11 +123,12 @@ module _ (t s : List ℕ) (from n : ℕ) where
     pub zones_whole : Whole zone_length_at s from n
     zones_whole = zones_stand.whole
 
-    pub zones_put : put_entries zone_place (λ bs. bs) t 0 (parts_from zone_length_at s from n) ≡ put_entries zone_place zone_bytes t 0 xs
-    zones_put = ap (put_entries zone_place (λ bs. bs) t 0) zones_stand.parts ∙ by_bytes zone_place zone_bytes t 0 xs
-
     pub zones_end : end_of zone_length_at s from n ≡ from + length (all_bytes zone_bytes xs)
     zones_end = zones_stand.end
+
+    pub zones_copied : (t : List ℕ) → put_entries zone_place (λ bs. bs) (placed t zone_count_place (n ∷ [])) 0 (parts_from zone_length_at s from n) ≡ with_zones t xs
+    unfolding with_zones
+    zones_copied t = rw (zones_stand.parts, h.number) (by_bytes zone_place zone_bytes (placed t zone_count_place (n ∷ [])) 0 xs)
 
   module _ (xs : List Window) (h : Held window_bytes s from n xs) where
     windows_stand : Standing window_bytes window_length_at window_least window_long s from n xs
@@ -136,5 +137,6 @@ module _ (t s : List ℕ) (from n : ℕ) where
     pub windows_whole : Whole window_length_at s from n
     windows_whole = windows_stand.whole
 
-    pub windows_put : put_entries window_place (λ bs. bs) t 0 (parts_from window_length_at s from n) ≡ put_entries window_place window_bytes t 0 xs
-    windows_put = ap (put_entries window_place (λ bs. bs) t 0) windows_stand.parts ∙ by_bytes window_place window_bytes t 0 xs
+    pub windows_copied : (t : List ℕ) → put_entries window_place (λ bs. bs) (placed t window_count_place (n ∷ [])) 0 (parts_from window_length_at s from n) ≡ with_windows t xs
+    unfolding with_windows
+    windows_copied t = rw (windows_stand.parts, h.number) (by_bytes window_place window_bytes (placed t window_count_place (n ∷ [])) 0 xs)

@@ -29,12 +29,12 @@ module _ {A : Type 0} where
     pub rest : List ℕ
     pub is : drop from s ≡ all_bytes entry_bytes xs ++ rest
 
--- the entries that are read from `from` on
-unfoldable pub zones_from : List ℕ → ℕ → ℕ → List Zone
-zones_from s from n = found (read_all read_zone n (drop from s))
+-- the entries of the section at `at`: they stand behind their count
+unfoldable pub zones_behind : List ℕ → ℕ → List Zone
+zones_behind s at = found (read_all read_zone (byte_at s at) (drop (at + 1) s))
 
-unfoldable pub windows_from : List ℕ → ℕ → ℕ → List Window
-windows_from s from n = found (read_all read_window n (drop from s))
+unfoldable pub windows_behind : List ℕ → ℕ → List Window
+windows_behind s at = found (read_all read_window (byte_at s at) (drop (at + 1) s))
 
 -- ## Entries of some kind, by how many bytes one at a place has
 

@@ -15,7 +15,7 @@ ghost use Rattle.table.specs.Left.{new_said, new_left, time_zone_said, time_zone
 
 use layout::{MOST_WINDOWS, MOST_ZONES, SIZE, WINDOW_COUNT, ZONE_COUNT, count_change};
 use model::Refusal;
-use word::or_zero::{put_u8, u8_at};
+use word::or_zero::put_u8;
 
 // The limits of a list store: how many zones it takes, and how many windows.
 #[derive(Clone, Copy, PartialEq, Eq)]
@@ -87,9 +87,7 @@ pub fn set_time_zone(table: &mut [u8], request: &[u8], room: usize) -> Result<()
     if room <= request.len() {
         return Err(Refusal::NoSpace);
     }
-    let n = u8_at(request, 0);
-    put_u8(table, ZONE_COUNT, n);
-    entries::put_zones(table, request, 1, n);
+    entries::put_zones(table, request, 0);
     drop_windows(table);
     Ok(())
 }
@@ -118,9 +116,7 @@ pub fn set_dst_offset(table: &mut [u8], request: &[u8], room: usize) -> Result<(
     if room < write::zones_length(table) + request.len() {
         return Err(Refusal::NoSpace);
     }
-    let n = u8_at(request, 0);
-    put_u8(table, WINDOW_COUNT, n);
-    entries::put_windows(table, request, 1, n);
+    entries::put_windows(table, request, 0);
     count_change(table);
     Ok(())
 }
@@ -135,12 +131,8 @@ pub fn load(table: &mut [u8], stored: &[u8]) -> Result<(), Refusal>
         layout::zone_limit(table),
         layout::window_limit(table),
     )?;
-    let zones = u8_at(stored, 0);
-    put_u8(table, ZONE_COUNT, zones);
-    let at = entries::put_zones(table, stored, 1, zones);
-    let windows = u8_at(stored, at);
-    put_u8(table, WINDOW_COUNT, windows);
-    entries::put_windows(table, stored, at + 1, windows);
+    let at = entries::put_zones(table, stored, 0);
+    entries::put_windows(table, stored, at);
     Ok(())
 }
 
