@@ -1,5 +1,5 @@
 // The record of a table, written straight from its places.
-ghost use Rattle.std.specs.Prelude.{◌≡◌, ◌∷◌, ◌+◌, ◌^◌, ◌<◌, ◌≤◌, cond, length};
+ghost use Rattle.std.specs.Prelude.{◌≡◌, ◌∷◌, ◌+◌, ◌^◌, ◌<◌, ◌≤◌, cond, length, sum_by};
 ghost use Rattle.model.specs.Bytes.{all_bytes, zones_bytes, record_bytes};
 ghost use Rattle.model.specs.Output.{too_short, copied_over};
 ghost use Rattle.model.specs.Store.{record_of};
@@ -13,18 +13,13 @@ use record::{MOST_BYTES, Record};
 
 // How many bytes the section of the entries in these places has.
 fn section_length<P: Place>(places: &[P]) -> usize
-    requires { length (all_bytes P.written places.now) < 2 ^ 32 }
-    ensures { result ≡ length (length places.now ∷ all_bytes P.written places.now) }
+    requires { sum_by (λ p. length (P.written p)) places.now < 2 ^ 32 }
+    ensures { result ≡ sum_by (λ p. length (P.written p)) places.now + 1 }
 {
-    let mut total: usize = 1;
-    for place in places {
-        total += place.length();
-    }
-    total
+    places.iter().map(|place| place.length()).sum::<usize>() + 1
 }
 
 // How many bytes the section of zones has.
-#[tactic(auto, using(crate::proofs::Listed::zones_long))]
 pub(crate) fn zones_length(table: &[u8]) -> usize
     ensures { result ≡ length (zones_bytes (zones_in table.now)) }
 {
@@ -32,7 +27,6 @@ pub(crate) fn zones_length(table: &[u8]) -> usize
 }
 
 // How many bytes the record has.
-#[tactic(auto, using(crate::proofs::Listed::windows_long, crate::proofs::Bounds::record_parts))]
 fn record_length(table: &[u8]) -> usize
     ensures { result ≡ length (record_bytes (lists_in table.now)) }
 {
