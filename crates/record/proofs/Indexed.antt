@@ -1,42 +1,38 @@
--- Entry `i` of a section, found by going from place to place.
-use Rattle.std.specs.Prelude.{Option, None, Some, List, slice_get, unwrap_or, option_and_then}
-use mathlib.Core.Path.{◌≡◌, sym, ap, ◌∙◌}
-use Prim.Native.Nat.{ℕ, zero, suc, ◌+◌, ◌≤◌, ◌<◌}
-use native.Mathlib.Numerals.{add-one}
-use native.Mathlib.Omega.{arith}
-use borrow.Author.Tests.{lt-ltb, le-ltb, ltb-true, ltb-false}
-use lib.Dec.{ltb}
-use lib.ListN.{get_or}
+-- Entries found by going from place to place, and entry `i` of a section.
+use Rattle.std.proofs.Common.{List, ◌∷◌, ◌≡◌, refl, ap, ◌∙◌, ℕ, suc, ◌≤◌, ◌<◌, get_or, Option, None, Some, slice_get, unwrap_or, option_map, option_and_then, lt-ltb, le-ltb}
 use Rattle.std.proofs.lemmas.Option.{unwrap_or-slice_get}
-use Rattle.model.proofs.Facts.{by_test}
-use Rattle.record.specs.Fronts.{onward, place_after, next_at, section_entry}
-
-module _ (next : ℕ → Option ℕ) where
-  -- once there is no place there is none
-  pub none_stays : (k i : ℕ) → place_after next k ≡ None → k ≤ i → place_after next i ≡ None
-  unfolding place_after
-  none_stays k zero h l = let e : k ≡ 0 = omega arith in ap (place_after next) (sym e) ∙ h
-  none_stays k (suc i) h l =
-      by_test (ltb i k)
-      (λ e. let q = ltb-true i k e in let f : k ≡ suc i = omega arith in ap (place_after next) (sym f) ∙ h)
-      (λ e. let q = ltb-false i k e in ap (onward next) (none_stays k i h q))
-
-  pub place_more : (k at : ℕ) → place_after next k ≡ Some at → place_after next (k + 1) ≡ next at
-  unfolding place_after
-  place_more k at h = ap (place_after next) (add-one k) ∙ ap (onward next) h
-
-  pub place_stops : (k i at : ℕ) → place_after next k ≡ Some at → next at ≡ None → k < i → place_after next i ≡ None
-  place_stops k i at h e l = none_stays (k + 1) i (place_more k at h ∙ e) (omega arith)
+use Rattle.record.specs.Fronts.{entries_at, place_after, section_entry}
 
 -- what a first element says of the count at the front
 pub count_is : (s : List ℕ) {r : Option ℕ} → r ≡ slice_get s 0 → unwrap_or r 0 ≡ get_or s 0 0
 count_is s e = ap (λ (o : Option ℕ). unwrap_or o 0) e ∙ unwrap_or-slice_get s 0 0
 
-module _ {E : Type 0} (found_at : List ℕ → ℕ → Option E) (next_of : E → ℕ) (s : List ℕ) (i : ℕ) where
-  pub index_past : get_or s 0 0 ≤ i → section_entry found_at next_of s i ≡ None
-  unfolding section_entry
-  index_past h = rw (le-ltb i (get_or s 0 0) h)
+module _ {E : Type 0} (found_at : List ℕ → ℕ → Option E) (next_of : E → ℕ) (s : List ℕ) where
+  -- one entry and those behind it
+  pub place_more : (at i : ℕ) {k : ℕ} → option_map next_of (found_at s at) ≡ Some k → place_after found_at next_of s at (suc i) ≡ place_after found_at next_of s k i
+  unfolding entries_at
+  place_more at i {k} h = go (found_at s at) h
+    where
+      last : (e : E) (o : Option (List E × ℕ)) → option_map (λ (p : List E × ℕ). p.1) (option_map (λ (p : List E × ℕ). (e ∷ p.0, p.1)) o) ≡ option_map (λ (p : List E × ℕ). p.1) o
+      last e None = refl
+      last e (Some p) = refl
 
-  pub index_within : i < get_or s 0 0 → section_entry found_at next_of s i ≡ option_and_then (found_at s) (place_after (next_at found_at next_of s) i)
-  unfolding section_entry
-  index_within h = rw (lt-ltb i (get_or s 0 0) h)
+      go : (f : Option E) → option_map next_of f ≡ Some k
+          → option_map (λ (p : List E × ℕ). p.1) (option_and_then (λ (e : E). option_map (λ (p : List E × ℕ). (e ∷ p.0, p.1)) (entries_at found_at next_of s (next_of e) i)) f)
+          ≡ place_after found_at next_of s k i
+      go None h = cc
+      go (Some e) h = let q : next_of e ≡ k = cc in last e (entries_at found_at next_of s (next_of e) i) ∙ ap (λ (n : ℕ). place_after found_at next_of s n i) q
+
+  -- none where the first is unreadable
+  pub place_stops : (at i : ℕ) → found_at s at ≡ None → place_after found_at next_of s at (suc i) ≡ None
+  unfolding entries_at
+  place_stops at i h = rw h
+
+  module _ (i : ℕ) where
+    pub index_past : get_or s 0 0 ≤ i → section_entry found_at next_of s i ≡ None
+    unfolding section_entry
+    index_past h = rw (le-ltb i (get_or s 0 0) h)
+
+    pub index_within : i < get_or s 0 0 → section_entry found_at next_of s i ≡ option_and_then (found_at s) (place_after found_at next_of s 1 i)
+    unfolding section_entry
+    index_within h = rw (lt-ltb i (get_or s 0 0) h)

@@ -1,5 +1,5 @@
 -- What the readers' answers say of the entries that a section or a record reads as.
-use Rattle.std.specs.Prelude.{Option, None, Some, slice_get}
+use Rattle.std.specs.Prelude.{Option, None, Some, slice_get, option_map}
 use mathlib.Core.Bool.{cond}
 use mathlib.Core.List.{List, [], ◌∷◌}
 use mathlib.Core.Path.{◌≡◌, refl, sym, ap, ◌∙◌}
@@ -10,7 +10,7 @@ use lib.Dec.{eqb, ltb}
 use lib.ListN.{length, drop, get_or, length-drop}
 use Rattle.model.specs.Lists.{Zone, Window, Lists}
 use Rattle.model.specs.Bytes.{Front, then, byte, read_zone, read_window, read_all, read_section, whole, nothing_left, read_zones, read_windows, read_record}
-use Rattle.record.specs.Fronts.{place_of, section_found, section_at, is_whole, zones_whole, windows_whole, windows_found, zones_found, record_at, place_after}
+use Rattle.record.specs.Fronts.{place_of, section_found, section_at, is_whole, zones_whole, windows_whole, windows_found, zones_found, record_at, entries_at, place_after}
 use Rattle.record.specs.RoundTrip.{request_found, ZonesMean, WindowsMean, RecordMeans}
 use Rattle.model.proofs.Facts.{by_test}
 use Rattle.record.proofs.Front.{byte_at, no_byte}
@@ -197,36 +197,34 @@ record_means s = by_zones s (read_section read_zone s) refl
 
 -- ## Entry `i` of a request
 
-module _ {A : Type 0} (read_one : List ℕ → Front A) (leaves : Leaves read_one) (s : List ℕ) (next : ℕ → Option ℕ)
-    (goes : (at k : ℕ) (x : A) → read_one (drop at s) ≡ Some (x, drop k s) → k ≤ length s → next at ≡ Some k) where
-  -- the place of entry `i`, and what is read there
-  pub record Indexed (xs : List A) (i : ℕ) : Type 0 where
-    pub at : ℕ
+module _ {A E : Type 0} (read_one : List ℕ → Front A) (leaves : Leaves read_one) (found_at : List ℕ → ℕ → Option E) (next_of : E → ℕ) (s : List ℕ)
+    (goes : (at k : ℕ) (x : A) → read_one (drop at s) ≡ Some (x, drop k s) → k ≤ length s → option_map next_of (found_at s at) ≡ Some k) where
+  -- the place of entry `i` of those from `at` on, and what is read there
+  pub record Indexed (at : ℕ) (xs : List A) (i : ℕ) : Type 0 where
+    pub place : ℕ
     pub entry : A
     pub left : List ℕ
-    pub place : place_after next i ≡ Some at
-    pub read : read_one (drop at s) ≡ Some (entry, left)
+    pub after : place_after found_at next_of s at i ≡ Some place
+    pub read : read_one (drop place s) ≡ Some (entry, left)
     pub is : slice_get xs i ≡ Some entry
 
-  -- from entry `k` at `at`, so many entries on
-  from : (j k at : ℕ) (n : ℕ) (xs : List A) (t : List ℕ) → at ≤ length s → place_after next k ≡ Some at → read_all read_one n (drop at s) ≡ Some (xs, t) → j < n → n ≡ length xs
-      → (e : A) × (a : ℕ) × (u : List ℕ) × (place_after next (k + j) ≡ Some a) × (read_one (drop a s) ≡ Some (e, u)) × (slice_get xs j ≡ Some e)
-  from j k at zero xs t h p r l c = absurd (omega arith)
-  from zero k at (suc n) xs t h p r l c =
+  from : (i at : ℕ) (n : ℕ) (xs : List A) (t : List ℕ) → at ≤ length s → read_all read_one n (drop at s) ≡ Some (xs, t) → i < n → Indexed at xs i
+  unfolding entries_at
+  from i at zero xs t h r l = absurd (omega arith)
+  from zero at (suc n) xs t h r l =
       let f = first_read read_one leaves s at n xs t h r in
-      let z : k + 0 ≡ k = omega arith in
-      (f.head, at, drop f.next s, ap (place_after next) z ∙ p, f.read, ap (λ (ys : List A). slice_get ys 0) f.is)
-  from (suc j) k at (suc n) xs t h p r l c =
+      record { place = at; entry = f.head; left = drop f.next s; after = refl; read = f.read; is = ap (λ (ys : List A). slice_get ys 0) f.is }
+  from (suc i) at (suc n) xs t h r l =
       let f = first_read read_one leaves s at n xs t h r in
-      let m = place_more next k at p ∙ goes at f.next f.head f.read f.within in
-      let g = from j (k + 1) f.next n f.tail t f.within m f.rest (omega arith) (omega (arith, ap length f.is)) in
-      let z : k + suc j ≡ k + 1 + j = omega arith in
-      (g.0, g.1, g.2, ap (place_after next) z ∙ g.3, g.4, ap (λ (ys : List A). slice_get ys (suc j)) f.is ∙ g.5)
+      let g = from i f.next n f.tail t f.within f.rest (omega arith) in
+      record {
+        place = g.place;
+        entry = g.entry;
+        left = g.left;
+        after = place_more found_at next_of s at i (goes at f.next f.head f.read f.within) ∙ g.after;
+        read = g.read;
+        is = ap (λ (ys : List A). slice_get ys (suc i)) f.is ∙ g.is;
+      }
 
-  pub indexed : (xs : List A) → read_section read_one s ≡ Some (xs, []) → (i : ℕ) → i < length xs → Indexed xs i
-  unfolding place_after
-  indexed xs e i l =
-      let c = section_read read_one leaves s 0 xs [] e in
-      let g = from i 0 1 (length xs) xs [] c.there refl c.entries l refl in
-      let z : 0 + i ≡ i = omega arith in
-      record { at = g.1; entry = g.0; left = g.2; place = ap (place_after next) (sym z) ∙ g.3; read = g.4; is = g.5 }
+  pub indexed : (xs : List A) → read_section read_one s ≡ Some (xs, []) → (i : ℕ) → i < length xs → Indexed 1 xs i
+  indexed xs e i l = let c = section_read read_one leaves s 0 xs [] e in from i 1 (length xs) xs [] c.there c.entries l

@@ -1,16 +1,11 @@
--- A section read entry by entry: what is left after each, and where the next one starts.
-use Rattle.std.specs.Prelude.{Option, None, Some, MatchOption}
-use mathlib.Core.List.{List, [], ◌∷◌}
-use mathlib.Core.Path.{◌≡◌, refl, sym, ap, ◌∙◌}
-use Prim.Native.Nat.{ℕ, zero, suc, ◌+◌, ◌-◌, ◌≤◌, ◌<◌}
-use native.Mathlib.Omega.{arith}
-use lib.ListN.{length, drop, get_or}
+-- Entries read one after another: what is left after each, and where the next one starts.
+use Rattle.std.proofs.Common.{List, [], ◌∷◌, ◌≡◌, refl, sym, ap, ◌∙◌, ℕ, zero, suc, ◌+◌, ◌-◌, ◌≤◌, ◌<◌, length, drop, get_or, Option, None, Some, MatchOption, option_map, arith}
+use Rattle.model.specs.Lists.{Zone, Window}
 use Rattle.model.specs.Bytes.{Front, then, read_zone, read_window, read_all}
 use Rattle.record.specs.declared.SectionRead.{SectionRead}
-use Rattle.model.specs.Lists.{Zone, Window}
 use Rattle.record.specs.declared.TimeZoneRead.{TimeZoneRead}
 use Rattle.record.specs.declared.DSTOffsetRead.{DSTOffsetRead}
-use Rattle.record.specs.Fronts.{place_of, section_found, section_at, zone_found, zone_at, window_found, window_at, next_zone, next_window}
+use Rattle.record.specs.Fronts.{place_of, place_left, section_found, section_at, zone_found, zone_at, window_found, window_at, next_zone, next_window}
 use Rattle.record.specs.Entries.{EntryRead, ReadAt}
 use Rattle.record.proofs.Front.{place_drop, byte_at, no_byte}
 use Rattle.record.proofs.Suffix.{Leaves, left_place, zone_leaves, window_leaves}
@@ -22,10 +17,9 @@ entries count next = Some (record { count = count; next = next })
 -- ## Entries, over any reader of one
 
 module _ {A : Type 0} (read_one : List ℕ → Front A) where
-  -- what is left after so many entries
+  -- what is left after some entries
   abbrev pub left_of : Front (List A) → Option (List ℕ)
-  left_of None = None
-  left_of (Some f) = Some f.1
+  left_of f = option_map (λ p. p.1) f
 
   pub counted : (n : ℕ) (s : List ℕ) (xs : List A) (t : List ℕ) → read_all read_one n s ≡ Some (xs, t) → length xs ≡ n
   unfolding read_all
@@ -34,14 +28,14 @@ module _ {A : Type 0} (read_one : List ℕ → Front A) where
     where
       inner : (x : A) (f : Front (List A)) → ((ys : List A) (u : List ℕ) → f ≡ Some (ys, u) → length ys ≡ n)
           → then f (λ ys s₂. Some (x ∷ ys, s₂)) ≡ Some (xs, t) → length xs ≡ suc n
-      inner x None ih k = let z : ◌≡◌ {A = Front (List A)} None (Some (xs, t)) = k in let y : ◌≡◌ {A = ℕ} 0 1 = cc in absurd (omega arith)
+      inner x None ih k = cc
       inner x (Some p) ih k =
           let q : ◌≡◌ {A = List A × List ℕ} (x ∷ p.0, p.1) (xs, t) = cc in
           sym (ap (λ p. length p.0) q) ∙ ap suc (ih p.0 p.1 refl)
 
       go : ((u : List ℕ) (ys : List A) (v : List ℕ) → read_all read_one n u ≡ Some (ys, v) → length ys ≡ n) → (f : Front A)
           → then f (λ x s₁. then (read_all read_one n s₁) (λ ys s₂. Some (x ∷ ys, s₂))) ≡ Some (xs, t) → length xs ≡ suc n
-      go ih None k = let z : ◌≡◌ {A = Front (List A)} None (Some (xs, t)) = k in let y : ◌≡◌ {A = ℕ} 0 1 = cc in absurd (omega arith)
+      go ih None k = cc
       go ih (Some p) k = inner p.0 (read_all read_one n p.1) (ih p.1) k
 
   -- one entry less
@@ -57,65 +51,68 @@ module _ {A : Type 0} (read_one : List ℕ → Front A) where
   unfolding read_all
   none_less n s h = rw h
 
-  pub none_more : (n : ℕ) (s : List ℕ) → left_of (read_all read_one n s) ≡ None → read_all read_one n s ≡ None
-  none_more n s h = go (read_all read_one n s) h
-    where
-      go : (f : Front (List A)) → left_of f ≡ None → f ≡ None
-      go None k = refl
-      go (Some p) k = cc
+  -- ## A loop over `n` of them from `from` on: `left` are still to be read, from `next` on
 
-  -- ## A loop over them: `left` entries of `count` are still to be read, from `next` on
-
-  pub record Reading (s : List ℕ) (at count left next : ℕ) : Type 0 where
+  pub record Reading (s : List ℕ) (from n left next : ℕ) : Type 0 where
     pub within : next ≤ length s
-    pub same : left_of (read_all read_one count (drop (at + 1) s)) ≡ left_of (read_all read_one left (drop next s))
+    pub same : left_of (read_all read_one n (drop from s)) ≡ left_of (read_all read_one left (drop next s))
 
-  module _ (s : List ℕ) (at : ℕ) where
-    abbrev section : Option SectionRead
-    section = section_at read_one s at
+  module _ (s : List ℕ) where
+    pub begins : (from n : ℕ) → from ≤ length s → Reading s from n (n - 0) from
+    begins from n h =
+        let e : n ≡ n - 0 = omega arith in
+        record { within = h; same = ap (λ (m : ℕ). left_of (read_all read_one m (drop from s))) e }
 
-    pub no_count : length s ≤ at → section ≡ None
-    unfolding section_at
-    no_count h = rw (no_byte s at h)
+    module _ {from n : ℕ} (index : ℕ) {next : ℕ} (r : Reading s from n (n - index) next) where
+      by_left : {o : Option (List ℕ)} → left_of (read_all read_one (n - index) (drop next s)) ≡ o → option_map (λ t. place_of s t) o ≡ place_left read_one s from n
+      by_left e = sym (go (read_all read_one n (drop from s)) ∙ ap (option_map (λ t. place_of s t)) (r.same ∙ e))
+        where
+          go : (f : Front (List A)) → option_map (λ p. place_of s p.1) f ≡ option_map (λ t. place_of s t) (left_of f)
+          go None = refl
+          go (Some p) = refl
 
-    -- the section has `count` entries
-    module _ (h : at < length s) (count : ℕ) (c : count ≡ get_or s at 0) where
-      pub begins : Reading s at count (count - 0) (at + 1)
-      begins =
-          let e : count ≡ count - 0 = omega arith in
-          record { within = omega arith; same = ap (λ (m : ℕ). left_of (read_all read_one m (drop (at + 1) s))) e }
+      more : index < n → left_of (read_all read_one (n - index) (drop next s)) ≡ left_of (read_all read_one (suc (n - (index + 1))) (drop next s))
+      more l = let e : n - index ≡ suc (n - (index + 1)) = omega arith in ap (λ (m : ℕ). left_of (read_all read_one m (drop next s))) e
 
-      -- the section is what its entries are
-      is_entries : section ≡ section_found s (read_all read_one count (drop (at + 1) s))
+      pub stops : index < n → read_one (drop next s) ≡ None → None ≡ place_left read_one s from n
+      stops l k = by_left (more l ∙ ap left_of (none_less (n - (index + 1)) (drop next s) k))
+
+      pub goes_on_lem : index < n → {k : ℕ} → EntryRead read_one s next k → Reading s from n (n - (index + 1)) k
+      goes_on_lem l {k} t = record { within = t.within; same = r.same ∙ more l ∙ one_less (n - (index + 1)) (drop next s) t.entry (drop k s) t.is }
+
+      pub ends : n ≤ index → Some next ≡ place_left read_one s from n
+      unfolding read_all
+      ends l =
+          let e : n - index ≡ 0 = omega arith in
+          sym (ap Some (place_drop s next r.within)) ∙ by_left (ap (λ (m : ℕ). left_of (read_all read_one m (drop next s))) e)
+
+    -- ## A section, by the place after its entries
+
+    module _ (at : ℕ) where
+      pub no_count : length s ≤ at → None ≡ section_at read_one s at
       unfolding section_at
-      is_entries = rw (byte_at s at h, c)
+      no_count h = rw (no_byte s at h)
 
-      module _ (index next : ℕ) (r : Reading s at count (count - index) next) where
-        more : index < count → left_of (read_all read_one count (drop (at + 1) s)) ≡ left_of (read_all read_one (suc (count - (index + 1))) (drop next s))
-        more l =
-            let e : count - index ≡ suc (count - (index + 1)) = omega arith in
-            r.same ∙ ap (λ (m : ℕ). left_of (read_all read_one m (drop next s))) e
+      module _ {count : ℕ} (h : at < length s) (c : count ≡ get_or s at 0) where
+        is_entries : section_at read_one s at ≡ section_found s (read_all read_one count (drop (at + 1) s))
+        unfolding section_at
+        is_entries = rw (byte_at s at h, c)
 
-        pub stops : index < count → read_one (drop next s) ≡ None → section ≡ None
-        stops l k =
-            let z = none_less (count - (index + 1)) (drop next s) k in
-            is_entries ∙ ap (section_found s) (none_more count (drop (at + 1) s) (more l ∙ ap left_of z))
-
-        pub goes_on_lem : index < count → {k : ℕ} → EntryRead read_one s next k → Reading s at count (count - (index + 1)) k
-        goes_on_lem l {k} t = record { within = t.within; same = more l ∙ one_less (count - (index + 1)) (drop next s) t.entry (drop k s) t.is }
-
-        pub ends : count ≤ index → section ≡ entries count next
-        unfolding read_all
-        ends l =
-            let e : count - index ≡ 0 = omega arith in
-            is_entries ∙ ended (read_all read_one count (drop (at + 1) s)) refl (r.same ∙ ap (λ (m : ℕ). left_of (read_all read_one m (drop next s))) e)
+        pub no_section : None ≡ place_left read_one s (at + 1) count → None ≡ section_at read_one s at
+        no_section e = go (read_all read_one count (drop (at + 1) s)) e ∙ sym is_entries
           where
-            ended : (f : Front (List A)) → read_all read_one count (drop (at + 1) s) ≡ f → left_of f ≡ Some (drop next s) → section_found s f ≡ entries count next
-            ended None q o = let z : ◌≡◌ {A = Option (List ℕ)} None (Some (drop next s)) = o in let y : ◌≡◌ {A = ℕ} 0 1 = cc in absurd (omega arith)
-            ended (Some p) q o =
-                let e : p.1 ≡ drop next s = cc in
-                let n = counted count (drop (at + 1) s) p.0 p.1 q in
-                ap (λ (m : ℕ). entries m (place_of s p.1)) n ∙ ap (λ (u : List ℕ). entries count (place_of s u)) e ∙ ap (entries count) (place_drop s next r.within)
+            go : (f : Front (List A)) → None ≡ option_map (λ p. place_of s p.1) f → None ≡ section_found s f
+            go None e = refl
+            go (Some p) e = cc
+
+        pub section_there : {k : ℕ} → Some k ≡ place_left read_one s (at + 1) count → entries count k ≡ section_at read_one s at
+        section_there {k} e = go (read_all read_one count (drop (at + 1) s)) refl e ∙ sym is_entries
+          where
+            go : (f : Front (List A)) → read_all read_one count (drop (at + 1) s) ≡ f → Some k ≡ option_map (λ p. place_of s p.1) f → entries count k ≡ section_found s f
+            go None q e = cc
+            go (Some p) q e =
+                let j : k ≡ place_of s p.1 = cc in
+                rw (counted count (drop (at + 1) s) p.0 p.1 q) (ap (entries count) j)
 
 -- ## What the answers of `zone_at` and `window_at` say
 

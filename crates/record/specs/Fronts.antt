@@ -1,7 +1,7 @@
 -- What a reader finds at a place of some bytes, and where it goes on.
-use Rattle.std.specs.Prelude.{◌&&◌, cond, List, ℕ, zero, suc, ◌+◌, ◌-◌, eqb, ltb, length, take, drop, get_or, Option, None, Some, option_map, option_and_then}
+use Rattle.std.specs.Prelude.{◌&&◌, cond, List, [], ◌∷◌, ℕ, zero, suc, ◌+◌, ◌-◌, eqb, ltb, length, take, drop, get_or, Option, None, Some, option_map, option_and_then}
 use Rattle.model.specs.Lists.{Name, Zone, Window}
-use Rattle.model.specs.Bytes.{Front, number, signed, read_zone, read_window, read_section}
+use Rattle.model.specs.Bytes.{Front, number, signed, read_zone, read_window, read_all, read_section}
 use Rattle.word.specs.Place.{fits_at, text_at}
 use Rattle.record.specs.declared.entry.Head.{Head}
 use Rattle.record.specs.declared.NamePlace.{NamePlace}
@@ -47,6 +47,23 @@ window_found s (Some f) = Some (record { offset = f.0.offset; valid_starting = f
 -- the window at `at`
 unfoldable pub window_at : List ℕ → ℕ → Option DSTOffsetRead
 window_at s at = window_found s (read_window (drop at s))
+
+-- ## Entries from a place on
+
+module _ {A : Type 0} (read_one : List ℕ → Front A) where
+  -- where a reader goes on after so many entries from `at` on; none where one is unreadable
+  abbrev pub place_left : List ℕ → ℕ → ℕ → Option ℕ
+  place_left s at n = option_map (λ f. place_of s f.1) (read_all read_one n (drop at s))
+
+module _ {E : Type 0} (found_at : List ℕ → ℕ → Option E) (next_of : E → ℕ) where
+  -- so many entries from `at` on, found one after another, and the place after them; none where one is unreadable
+  unfoldable pub entries_at : List ℕ → ℕ → ℕ → Option (List E × ℕ)
+  entries_at s at zero = Some ([], at)
+  entries_at s at (suc n) = option_and_then (λ e. option_map (λ p. (e ∷ p.0, p.1)) (entries_at s (next_of e) n)) (found_at s at)
+
+  -- the place after them
+  abbrev pub place_after : List ℕ → ℕ → ℕ → Option ℕ
+  place_after s at n = option_map (λ p. p.1) (entries_at s at n)
 
 -- ## A section at a place
 
@@ -103,22 +120,10 @@ record_at s = zones_found s (zones_at s 0)
 
 -- ## Entry `i` of the section at the front
 
-abbrev pub onward : (ℕ → Option ℕ) → Option ℕ → Option ℕ
-onward next place = option_and_then next place
-
--- the place after so many entries, from the first on; `next` gives the place after the entry at a place, none where it is unreadable
-unfoldable pub place_after : (ℕ → Option ℕ) → ℕ → Option ℕ
-place_after next zero = Some 1
-place_after next (suc i) = onward next (place_after next i)
-
 module _ {E : Type 0} (found_at : List ℕ → ℕ → Option E) (next_of : E → ℕ) where
-  -- the place after the entry at a place
-  abbrev pub next_at : List ℕ → ℕ → Option ℕ
-  next_at s at = option_map next_of (found_at s at)
-
   -- the entry of an index below the count; else unreadable
   unfoldable pub section_entry : List ℕ → ℕ → Option E
-  section_entry s i = cond (ltb i (get_or s 0 0)) (option_and_then (found_at s) (place_after (next_at s) i)) None
+  section_entry s i = cond (ltb i (get_or s 0 0)) (option_and_then (found_at s) (place_after found_at next_of s 1 i)) None
 
 abbrev pub next_zone : TimeZoneRead → ℕ
 next_zone z = z.next

@@ -1,20 +1,28 @@
 // Sections of entries, and a reader of one after another.
-ghost use Rattle.std.specs.Prelude.{◌≡◌, length, nat_eq};
-ghost use Rattle.record.specs.Fronts.{section_at, section_entry, count_of, moved_to};
+ghost use Rattle.std.specs.Prelude.{◌≡◌, ◌≤◌, length, nat_eq};
+ghost use Rattle.record.specs.Fronts.{place_after, place_left, section_at, section_entry, count_of, moved_to};
 
 use crate::SectionRead;
 use crate::entry::Entry;
+
+// The place after the n entries from `at` on.
+pub fn place_after<E: Entry>(s: &[u8], at: usize, n: usize) -> Option<usize>
+    ensures found { result ≡ place_after E.found_at E.next_of s.now at n }
+    ensures read { at ≤ length s.now → result ≡ place_left E.read_one s.now at n }
+{
+    let mut next = at;
+    for _ in 0..n {
+        next = E::read_at(s, next)?.next();
+    }
+    Some(next)
+}
 
 // The section at `at`.
 pub fn section_at<E: Entry>(s: &[u8], at: usize) -> Option<SectionRead>
     ensures { result ≡ section_at E.read_one s.now at }
 {
     let count = *s.get(at)?;
-    let mut next = at + 1;
-    for _ in 0..count {
-        let entry = E::read_at(s, next)?;
-        next = entry.next();
-    }
+    let next = place_after::<E>(s, at + 1, count as usize)?;
     Some(SectionRead { count, next })
 }
 
@@ -26,12 +34,7 @@ pub fn nth<E: Entry>(s: &[u8], i: usize) -> Option<E>
     if count as usize <= i {
         return None;
     }
-    let mut at = 1;
-    for _ in 0..i {
-        let before = E::read_at(s, at)?;
-        at = before.next();
-    }
-    E::read_at(s, at)
+    E::read_at(s, place_after::<E>(s, 1, i)?)
 }
 
 // The bytes lent to a reader, and the place of the next section.

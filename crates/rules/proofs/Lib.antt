@@ -1,5 +1,4 @@
 pub mod Walk
-pub mod Entries
-pub mod There
+pub mod Shown
+pub mod Whole
 pub mod Agree
-pub mod Requests

@@ -1,51 +1,77 @@
-// Entries tested one after another, by the rule of their kind.
-ghost use Rattle.std.specs.Prelude.{List, ℕ, Option};
-ghost use Rattle.model.specs.Bytes.{Front};
-ghost use Rattle.model.specs.Rules.{Verdict};
-ghost use Rattle.rules.specs.Entries.{IsReadable, ShownAt, Decides, Readable, EntriesTested};
+// A section tested as it is read, by the rule of its kind of entry.
+ghost use Rattle.std.specs.Prelude.{◌≡◌, Bool, ℕ, Option};
+ghost use Rattle.rules.specs.Entries.{entry_tested, section_tested, request_tested};
 
 use model::Refusal;
 use record::entry::Entry;
+use record::section::place_after;
 
 // An entry that a rule tests, by its index and the entry before it.
 pub(crate) trait Ruled: Entry {
-    // What is ruled, and how one is read: `meaning` and `read_one` of `Entry` again, since the type of a member cannot name a supertrait's.
-    ghost subject: { Type 0 };
-
-    ghost read_subject: { List ℕ → Front subject };
-
-    ghost rule: { ℕ → Option subject → subject → Verdict };
-
-    // Whether an entry that was read has what the rule sees of what it stands for.
-    ghost shows: { subject → Self → Type 0 };
-
-    // The entry at `at`, where one is readable: nothing is tested again.
-    fn there(s: &[u8], at: usize) -> Self
-        requires { IsReadable read_subject s.now at }
-        ensures { ShownAt shows read_subject Self.next_of s.now at result };
+    ghost keeps: { ℕ → Option Self → Self → Bool };
 
     // Whether the entry keeps the rule.
     fn passes(&self, index: usize, before: Option<Self>) -> bool
-        ensures { Decides shows rule index before self.now result };
+        ensures { result ≡ keeps index before self.now };
 }
 
-// What the rule says of the n entries from `at` on, which are readable.
-pub(crate) fn tested<E: Ruled>(s: &[u8], at: usize, n: usize, limit: usize) -> Result<(), Refusal>
-    requires { Readable E.read_subject s.now at n }
-    ensures { EntriesTested E.read_subject E.rule s.now at n limit result }
+// A section: what is said of its entries, and the place after it.
+#[derive(Clone, Copy)]
+pub(crate) struct Tested {
+    pub(crate) verdict: Result<(), Refusal>,
+    pub(crate) next: usize,
+}
+
+// What is said of one entry: the limit is tested before the rule.
+#[tactic(auto, unfolding(model::specs::Rules::demand))]
+fn verdict_on<E: Ruled>(
+    entry: E,
+    index: usize,
+    before: Option<E>,
+    limit: usize,
+) -> Result<(), Refusal>
+    ensures { result ≡ entry_tested E.keeps limit index before entry }
 {
-    let mut next = at;
-    let mut before = None;
-    for index in 0..n {
-        if index == limit {
-            return Err(Refusal::ResourceExhausted);
-        }
-        let entry = E::there(s, next);
-        if !entry.passes(index, before) {
-            return Err(Refusal::ConstraintError);
-        }
-        next = entry.next();
-        before = Some(entry);
+    if index == limit {
+        return Err(Refusal::ResourceExhausted);
+    }
+    if !entry.passes(index, before) {
+        return Err(Refusal::ConstraintError);
     }
     Ok(())
+}
+
+// The section at `at`: each entry is read once, and the first that fails decides. Those after it are read too, since a section is unreadable
+// where one of its entries is.
+pub(crate) fn section<E: Ruled>(s: &[u8], at: usize, limit: usize) -> Option<Tested>
+    ensures { result ≡ section_tested E.found_at E.next_of E.keeps limit s.now at }
+{
+    let count = *s.get(at)? as usize;
+    let mut before = None;
+    let mut next = at + 1;
+    for index in 0..count {
+        let entry = E::read_at(s, next)?;
+        next = entry.next();
+        let verdict = verdict_on(entry, index, before, limit);
+        if verdict.is_err() {
+            let next = place_after::<E>(s, next, count - index - 1)?;
+            return Some(Tested { verdict, next });
+        }
+        before = Some(entry);
+    }
+    Some(Tested {
+        verdict: Ok(()),
+        next,
+    })
+}
+
+// A request: one section and nothing else.
+#[tactic(auto, unfolding(crate::specs::Entries::request_tested))]
+pub(crate) fn request<E: Ruled>(s: &[u8], limit: usize) -> Result<(), Refusal>
+    ensures { result ≡ request_tested E.found_at E.next_of E.keeps limit s.now }
+{
+    match section::<E>(s, 0, limit) {
+        Some(section) if section.next == s.len() => section.verdict,
+        _ => Err(Refusal::Unreadable),
+    }
 }

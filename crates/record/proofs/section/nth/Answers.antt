@@ -1,8 +1,7 @@
 -- `record::section::nth` meets its contract.
-use Rattle.std.proofs.Common.{◌≡◌, refl, sym, ap, ◌∙◌, arith}
-use Rattle.std.specs.Prelude.{None, Some, option_map, option_and_then}
-use Rattle.record.specs.Fronts.{place_after, next_at}
-use Rattle.record.proofs.Indexed.{place_more, place_stops, count_is, index_past, index_within}
+use Rattle.std.proofs.Common.{sym, ap, ◌∙◌, arith}
+use Rattle.std.specs.Prelude.{option_and_then}
+use Rattle.record.proofs.Indexed.{count_is, index_past, index_within}
 use Rattle.record.proofs.section.nth.Goals as goal
 
 pub returns-in_err-count : goal.returns-in_err-count
@@ -16,29 +15,18 @@ returns-then-count-i g c =
     let past = c.if-count-i.true in
     sym (index_past g.E.Entry.found_at g.E.Entry.next_of c.args.s.now c.args.i (omega arith))
 
-pub loop-init : goal.loop-init
-unfolding place_after
-loop-init g c = refl
-
-pub returns-in_err-before : goal.returns-in_err-before
-returns-in_err-before g c =
+pub returns-in_err-place_after : goal.returns-in_err-place_after
+returns-in_err-place_after g c =
+    let e = g.E.Entry in
     let n = count_is c.args.s.now c.in_ok-count.ensures.value in
     let within = c.if-count-i.false in
-    let e : next_at g.E.Entry.found_at g.E.Entry.next_of c.args.s.now c.loop.at ≡ None = ap (option_map g.E.Entry.next_of) (sym c.in_err-before.ensures.found) in
-    c.from_residual-in_err-before.ensures
-    ∙ sym (index_within g.E.Entry.found_at g.E.Entry.next_of c.args.s.now c.args.i (omega arith)
-    ∙ ap (option_and_then (g.E.Entry.found_at c.args.s.now)) (place_stops (next_at g.E.Entry.found_at g.E.Entry.next_of c.args.s.now) c.loop.counter c.args.i c.loop.at c.loop.invariant e c.loop-test.true))
-
-pub loop-preserved : goal.loop-preserved
-loop-preserved g c =
-    place_more (next_at g.E.Entry.found_at g.E.Entry.next_of c.args.s.now) c.loop.counter c.loop.at c.loop.invariant
-    ∙ ap (option_map g.E.Entry.next_of) (sym c.in_ok-before.ensures.found) ∙ ap Some (sym c.next-at.ensures)
+    c.from_residual-in_err-place_after.ensures
+    ∙ sym (index_within e.found_at e.next_of c.args.s.now c.args.i (omega arith) ∙ ap (option_and_then (e.found_at c.args.s.now)) (sym c.in_err-place_after.ensures.found))
 
 pub returns : goal.returns
 returns g c =
+    let e = g.E.Entry in
     let n = count_is c.args.s.now c.in_ok-count.ensures.value in
     let within = c.if-count-i.false in
-    let e : c.loop.counter ≡ c.args.i = omega arith in
-    c.read_at-2.ensures.found
-    ∙ sym (index_within g.E.Entry.found_at g.E.Entry.next_of c.args.s.now c.args.i (omega arith)
-    ∙ ap (option_and_then (g.E.Entry.found_at c.args.s.now)) (ap (place_after (next_at g.E.Entry.found_at g.E.Entry.next_of c.args.s.now)) (sym e) ∙ c.loop.invariant))
+    c.read_at.ensures.found
+    ∙ sym (index_within e.found_at e.next_of c.args.s.now c.args.i (omega arith) ∙ ap (option_and_then (e.found_at c.args.s.now)) (sym c.in_ok-place_after.ensures.found))

@@ -1,0 +1,166 @@
+-- A request and a record, from what is said of their sections.
+use Rattle.std.proofs.Common.{Bool, List, [], ◌∷◌, ◌≡◌, refl, sym, ap, ap₂, ◌∙◌, ℕ, ◌<◌, ◌≢◌, eqb, length, drop, Option, None, Some, Result, Err, option_map, arith, eq-eqb, ne_eqb}
+use Rattle.std.specs.Bool.{then_some}
+use Rattle.std.specs.Result.{result_and, result_or}
+use Rattle.model.specs.declared.Refusal.{Refusal}
+use Rattle.model.specs.declared.Refusal.TheVariants.{BadRecord}
+use Rattle.model.specs.Lists.{Zone, Window, Lists}
+use Rattle.model.specs.Rules.{Rules, Verdict, accepted, turned_down, and_then, test_from, test_zones, test_windows, zone_rule, window_rule}
+use Rattle.model.specs.Bytes.{Front, then, nothing_left, whole, read_zone, read_window, read_section, read_zones, read_windows, read_record}
+use Rattle.model.specs.History.{as_bad_record, record_verdict, verdict}
+use Rattle.record.specs.Fronts.{place_of, zone_at, window_at, next_zone, next_window}
+use Rattle.record.proofs.Suffix.{left_place, zone_leaves}
+use Rattle.record.proofs.Meaning.{section_leaves}
+use Rattle.rules.specs.declared.rule.Tested.{Tested}
+use Rattle.rules.specs.Numbers.{zone_passes}
+use Rattle.rules.specs.Verdicts.{verdict_of, list_verdict, zones_tested, windows_tested, record_tested}
+use Rattle.rules.specs.Entries.{section_tested, whole_tested, request_tested, lists_tested}
+use Rattle.rules.proofs.Shown.{section_said, window_keeps, zones_said, windows_said}
+
+-- ## A request
+
+-- where a section is read, a byte is there
+section_long : {A : Type 0} (read_one : List ℕ → Front A) (s : List ℕ) (f : List A × List ℕ) → read_section read_one s ≡ Some f → 0 < length s
+section_long read_one [] f e = cc
+section_long read_one (b ∷ s) f e = omega arith
+
+module _ {A E : Type 0} (read_one : List ℕ → Front A) (limit : ℕ) (rule : ℕ → Option A → A → Verdict)
+    (found_at : List ℕ → ℕ → Option E) (next_of : E → ℕ) (keeps : ℕ → Option E → E → Bool) (s : List ℕ)
+    (is : section_tested found_at next_of keeps limit s 0 ≡ section_said read_one limit rule s (read_section read_one s)) where
+  asked : request_tested found_at next_of keeps limit s ≡ verdict_of (list_verdict limit rule (whole (read_section read_one s)))
+  unfolding request_tested
+  asked = ap (whole_tested found_at next_of keeps limit (length s)) is ∙ go (read_section read_one s) refl
+    where
+      by : 0 < length s → (xs : List A) (left : List ℕ)
+          → whole_tested found_at next_of keeps limit (length s) (Some (record { verdict = verdict_of (test_from limit rule 0 None xs); next = place_of s left })) ≡ verdict_of (list_verdict limit rule (nothing_left xs left))
+      by n xs [] = let k : place_of s [] ≡ length s = omega arith in rw (eq-eqb (place_of s []) (length s) k) refl
+      by n xs (b ∷ left) = let k : place_of s (b ∷ left) ≢ length s = λ q. omega (arith, q, n) in rw (ne_eqb (place_of s (b ∷ left)) (length s) k) refl
+
+      go : (f : Front (List A)) → read_section read_one s ≡ f → whole_tested found_at next_of keeps limit (length s) (section_said read_one limit rule s f) ≡ verdict_of (list_verdict limit rule (whole f))
+      go None q = refl
+      go (Some f) q = by (section_long read_one s f q) f.0 f.1
+
+pub zones_asked : (limit : ℕ) (s : List ℕ) → request_tested zone_at next_zone zone_passes limit s ≡ zones_tested limit s
+unfolding zones_tested read_zones
+zones_asked limit s = asked read_zone limit zone_rule zone_at next_zone zone_passes s (zones_said limit s 0)
+
+pub windows_asked : (limit : ℕ) (s : List ℕ) → request_tested window_at next_window window_keeps limit s ≡ windows_tested limit s
+unfolding windows_tested read_windows
+windows_asked limit s = asked read_window limit window_rule window_at next_window window_keeps s (windows_said limit s 0)
+
+-- ## A record
+
+both_said : (a b : Verdict) → result_and (verdict_of a) (verdict_of b) ≡ verdict_of (and_then a b)
+unfolding and_then
+both_said accepted b = refl
+both_said (turned_down cause) b = refl
+
+module _ (zone_limit window_limit : ℕ) (s : List ℕ) where
+  abbrev rules : Rules
+  rules = record { zone_limit = zone_limit; window_limit = window_limit }
+
+  abbrev zones : Option Tested
+  zones = section_tested zone_at next_zone zone_passes zone_limit s 0
+
+  abbrev windows : ℕ → Option Tested
+  windows at = section_tested window_at next_window window_keeps window_limit s at
+
+  abbrev said : Option (Result (Unit {0}) Refusal)
+  said = lists_tested zone_limit window_limit s
+
+  -- what is said of lists that were read, where nothing is left over
+  abbrev of_lists : Front Lists → Option (Result (Unit {0}) Refusal)
+  of_lists f = option_map (λ l. verdict_of (and_then (test_zones rules l.zones) (test_windows rules l.windows))) (whole f)
+
+  -- some zones with the windows that were read behind them
+  abbrev with_windows : List Zone → Front (List Window) → Front Lists
+  with_windows zs f = then f (λ ws left. Some (record { zones = zs; windows = ws }, left))
+
+  abbrev with_zones : Front (List Zone) → Front Lists
+  with_zones f = then f (λ zs left. with_windows zs (read_section read_window left))
+
+  pub no_zones : None ≡ zones → None ≡ said
+  unfolding lists_tested read_record
+  no_zones e = go (read_section read_zone s) (e ∙ zones_said zone_limit s 0)
+    where
+      go : (f : Front (List Zone)) → None ≡ section_said read_zone zone_limit zone_rule s f → None ≡ of_lists (with_zones f)
+      go None e = refl
+      go (Some f) e = cc
+
+  -- the zones that were tested, and what is said by the windows behind them
+  record Behind (t : Tested) : Type 0 where
+    pub zs : List Zone
+    pub long : 0 < length s
+    pub verdict : t.verdict ≡ verdict_of (test_zones rules zs)
+    pub is : said ≡ of_lists (with_windows zs (read_section read_window (drop t.next s)))
+
+  behind : {t : Tested} → Some t ≡ zones → Behind t
+  unfolding lists_tested read_record test_zones
+  behind {t} e = go (read_section read_zone s) refl (e ∙ zones_said zone_limit s 0)
+    where
+      go : (f : Front (List Zone)) → read_section read_zone s ≡ f → Some t ≡ section_said read_zone zone_limit zone_rule s f → Behind t
+      go None q h = record { zs = []; long = cc; verdict = cc; is = cc }
+      go (Some f) q h =
+          let left = left_place s 0 f.1 (omega arith) (section_leaves read_zone zone_leaves s f.0 f.1 q) in
+          let j : t ≡ record { verdict = verdict_of (test_zones rules f.0); next = place_of s f.1 } = cc in
+          record {
+            zs = f.0;
+            long = section_long read_zone s f q;
+            verdict = ap (λ (x : Tested). x.verdict) j;
+            is =
+                ap (λ (g : Front (List Zone)). of_lists (with_zones g)) q
+                ∙ ap (λ (u : List ℕ). of_lists (with_windows f.0 (read_section read_window u))) left.0
+                ∙ ap (λ (k : ℕ). of_lists (with_windows f.0 (read_section read_window (drop k s)))) (sym (ap (λ (x : Tested). x.next) j));
+          }
+
+  module _ {t : Tested} (e : Some t ≡ zones) where
+    pub no_windows : None ≡ windows t.next → None ≡ said
+    no_windows w = go (read_section read_window (drop t.next s)) (w ∙ windows_said window_limit s t.next) ∙ sym (behind e).is
+      where
+        go : (f : Front (List Window)) → None ≡ section_said read_window window_limit window_rule s f → None ≡ of_lists (with_windows (behind e).zs f)
+        go None w = refl
+        go (Some f) w = cc
+
+    pub both_tested : {u : Tested} → Some u ≡ windows t.next → then_some (eqb u.next (length s)) (result_and t.verdict u.verdict) ≡ said
+    unfolding test_windows
+    both_tested {u} w = go (read_section read_window (drop t.next s)) (w ∙ windows_said window_limit s t.next) ∙ sym (behind e).is
+      where
+        by : (ws : List Window) (left : List ℕ) → u ≡ record { verdict = verdict_of (test_windows rules ws); next = place_of s left }
+            → then_some (eqb u.next (length s)) (result_and t.verdict u.verdict) ≡ of_lists (Some (record { zones = (behind e).zs; windows = ws }, left))
+        by ws [] j =
+            let k : u.next ≡ length s = omega (arith, ap (λ (x : Tested). x.next) j) in
+            rw (eq-eqb u.next (length s) k)
+            (ap Some (ap₂ result_and (behind e).verdict (ap (λ (x : Tested). x.verdict) j) ∙ both_said (test_zones rules (behind e).zs) (test_windows rules ws)))
+        by ws (b ∷ left) j =
+            let k : u.next ≢ length s = λ q. omega (arith, ap (λ (x : Tested). x.next) j, (behind e).long) in
+            rw (ne_eqb u.next (length s) k) refl
+
+        go : (f : Front (List Window)) → Some u ≡ section_said read_window window_limit window_rule s f
+            → then_some (eqb u.next (length s)) (result_and t.verdict u.verdict) ≡ of_lists (with_windows (behind e).zs f)
+        go None w = cc
+        go (Some f) w = by f.0 f.1 cc
+
+  -- ## What is said of a stored record
+
+  abbrev stored : Result (Unit {0}) Refusal
+  stored = record_tested zone_limit window_limit s
+
+  pub not_read : None ≡ said → Err BadRecord ≡ stored
+  unfolding lists_tested record_tested verdict
+  not_read e = go (read_record s) e
+    where
+      go : (o : Option Lists) → None ≡ option_map (λ l. verdict_of (and_then (test_zones rules l.zones) (test_windows rules l.windows))) o → Err BadRecord ≡ verdict_of (record_verdict rules o)
+      go None e = refl
+      go (Some l) e = cc
+
+  pub read : {v : Result (Unit {0}) Refusal} → Some v ≡ said → result_or v (Err BadRecord) ≡ stored
+  unfolding lists_tested record_tested verdict
+  read {v} e = go (read_record s) e
+    where
+      as_bad : (w : Verdict) → v ≡ verdict_of w → result_or v (Err BadRecord) ≡ verdict_of (as_bad_record w)
+      as_bad accepted q = rw q refl
+      as_bad (turned_down cause) q = rw q refl
+
+      go : (o : Option Lists) → Some v ≡ option_map (λ l. verdict_of (and_then (test_zones rules l.zones) (test_windows rules l.windows))) o → result_or v (Err BadRecord) ≡ verdict_of (record_verdict rules o)
+      go None e = cc
+      go (Some l) e = as_bad (and_then (test_zones rules l.zones) (test_windows rules l.windows)) cc
