@@ -1,13 +1,7 @@
 -- What acceptance gives: a list no longer than its limit, and of each entry what its rule demands. The lists after any calls have it.
-use Rattle.std.specs.Prelude.{Option, None, Some}
-use mathlib.Core.Bool.{Bool, true, false, beq}
-use mathlib.Core.List.{List, [], ◌∷◌, ◌++◌}
-use mathlib.Core.Path.{◌≡◌, refl, ap}
-use Prim.Native.Nat.{ℕ, suc, ◌+◌, ◌*◌, ◌-◌, ◌≤◌}
-use native.Mathlib.Omega.{arith}
-use borrow.Author.Tests.{eqb-true, eqb-false, not-true, le-ltb}
-use lib.Dec.{ltb, eqb}
-use lib.ListN.{length, length-append}
+use Rattle.std.proofs.Common.{Option, None, Some, Bool, true, false, List, [], ◌∷◌, ◌++◌, ◌≡◌, refl, ap, ℕ, suc, ◌+◌, ◌*◌, ◌-◌, ◌≤◌, arith, eqb-true, le-ltb, ltb, eqb, length, length-append}
+use Rattle.std.proofs.lemmas.Bool.{eqb-false, not-true}
+use Rattle.std.proofs.Math.Bool.{beq}
 use Rattle.model.specs.declared.Refusal.{Refusal}
 use Rattle.model.specs.Basics.{keep, different}
 use Rattle.model.specs.Lists.{Zone, Window, Lists, empty}
@@ -168,7 +162,7 @@ windows_fit r ws h = let k = accepted_fits r.window_limit window_rule 0 None ws 
 
 -- ## How many boundaries that leaves
 
-length-zone_starts : (zs : List Zone) → length (zone_starts zs) ≡ length zs
+pub length-zone_starts : (zs : List Zone) → length (zone_starts zs) ≡ length zs
 unfolding zone_starts
 length-zone_starts [] = refl
 length-zone_starts (z ∷ zs) = ap suc (length-zone_starts zs)
@@ -177,7 +171,7 @@ with_end : (u : Option ℕ) (bs : List ℕ) (n : ℕ) → length bs ≤ 2 * n �
 with_end None bs n h = omega arith
 with_end (Some e) bs n h = omega arith
 
-length-window_bounds : (ws : List Window) → length (window_bounds ws) ≤ 2 * length ws
+pub length-window_bounds : (ws : List Window) → length (window_bounds ws) ≤ 2 * length ws
 unfolding window_bounds
 length-window_bounds [] = omega arith
 length-window_bounds (w ∷ ws) = with_end w.until (window_bounds ws) (length ws) (length-window_bounds ws)

@@ -1,11 +1,6 @@
 -- What a clock reads after a setting and after a load, and what stays stored.
-use Rattle.std.specs.Prelude.{Option, None, Some}
-use mathlib.Core.Bool.{true}
-use mathlib.Core.Path.{◌≡◌, refl, ap, ◌∙◌}
-use Prim.Native.Nat.{ℕ, ◌≤◌}
-use native.Mathlib.Omega.{arith}
-use borrow.Author.Tests.{eqb-true, leb-false}
-use lib.Dec.{eqb}
+use Rattle.std.proofs.Common.{Option, None, Some, true, ◌≡◌, refl, ap, ◌∙◌, ℕ, ◌≤◌, arith, eqb-true, leb-false, eqb}
+use Rattle.std.proofs.lemmas.Bool.{and_parts}
 use Rattle.model.specs.declared.TimeGranularity.{TimeGranularity}
 use Rattle.model.specs.declared.TimeGranularity.TheVariants.{Milliseconds}
 use Rattle.model.specs.declared.TimeSource.{TimeSource}
@@ -16,7 +11,7 @@ use Rattle.model.specs.Clock.{Clock, reliable, reading, stored_utc, no_fabric, l
 use Rattle.model.specs.Handler.{Device, source_readable, set_utc_time_command}
 use Rattle.model.specs.Retries.{Client, Applied, attempt_of}
 use Rattle.model.specs.ClockLaws.{IsSet, EverySetting, SettingReadsBack, ReadsLowered, EndsAtSeconds, SettingKeepsSource, OnlySource, SourceChangeKeepsRest, NeverBelowBuild, WithinADay}
-use Rattle.model.proofs.Facts.{by_test, and_both}
+use Rattle.model.proofs.Facts.{by_test}
 
 -- ## Settings
 
@@ -81,8 +76,8 @@ equal_sources None None e = refl
 equal_sources None (Some t) e = cc
 equal_sources (Some s) None e = cc
 equal_sources (Some s) (Some t) e =
-    let p = and_both (eqb s.fabric t.fabric) _ e in
-    let q = and_both (eqb s.node t.node) _ p.1 in
+    let p = and_parts (eqb s.fabric t.fabric) _ e in
+    let q = and_parts (eqb s.node t.node) _ p.1 in
     ap Some
     (ap (λ (x : ℕ). record { fabric = x; node = s.node; endpoint = s.endpoint }) (eqb-true _ _ p.0)
     ∙ (ap (λ (x : ℕ). record { fabric = t.fabric; node = x; endpoint = s.endpoint }) (eqb-true _ _ q.0)
@@ -109,7 +104,7 @@ pub never_below_build : NeverBelowBuild
 unfolding load reading
 never_below_build build c moment source tick h =
     by_test (no_fabric source)
-    (λ e. let taken = rw e at h in let z : ◌≡◌ {A = ℕ} 0 1 = cc in absurd (omega arith))
+    (λ e. let taken = rw e at h in cc)
     (λ e. rw e (floor build moment))
 
 -- ## The persisted moment

@@ -1,11 +1,5 @@
 -- The codes of effects are different, and a returned number gives back what it was made of.
-use Rattle.std.specs.Prelude.{Some, slice_get}
-use mathlib.Core.List.{List, [], ◌∷◌, map}
-use mathlib.Core.Path.{◌≡◌, refl, ap, ◌∙◌}
-use Prim.Native.Nat.{ℕ, zero, suc, ◌+◌, ◌*◌, ◌/◌, ◌%◌, ◌≤◌, ◌<◌}
-use native.Mathlib.Omega.{arith}
-use lib.Dec.{lit<}
-use lib.ListN.{length, get_or}
+use Rattle.std.proofs.Common.{Some, slice_get, List, [], ◌∷◌, map, ◌≡◌, refl, ap, ◌∙◌, ℕ, zero, suc, ◌+◌, ◌*◌, ◌/◌, ◌%◌, ◌≤◌, ◌<◌, arith, lit<, length, get_or}
 use Rattle.model.specs.declared.Refusal.TheVariants as R
 use Rattle.model.specs.Numbers.{refusal_of}
 use Rattle.model.specs.Bytes.{bytes, number}

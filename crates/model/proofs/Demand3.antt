@@ -1,11 +1,6 @@
 -- Demand 3 over the definitions: any calls, any limits, any starting moment.
-use Rattle.std.specs.Prelude.{Option, None, Some}
-use mathlib.Core.Bool.{Bool, true, false, cond}
-use mathlib.Core.List.{List, [], ◌∷◌}
-use mathlib.Core.Path.{◌≡◌, refl, sym, ap, ◌∙◌}
-use Prim.Native.Nat.{ℕ, ◌≤◌}
-use native.Mathlib.Omega.{arith}
-use borrow.Author.Tests.{leb-true}
+use Rattle.std.proofs.Common.{Option, None, Some, Bool, true, false, cond, List, [], ◌∷◌, ◌≡◌, refl, sym, ap, ◌∙◌, ℕ, ◌≤◌, leb-true}
+use Rattle.std.proofs.lemmas.Bool.{and_parts}
 use Rattle.model.specs.declared.Refusal.TheVariants.{BadLimits}
 use Rattle.model.specs.Basics.{run}
 use Rattle.model.specs.Lists.{Zone, Window, Lists, empty}
@@ -16,7 +11,7 @@ use Rattle.model.specs.History.{Call, SetTimeZone, SetDSTOffset, Load, FactoryRe
 use Rattle.model.specs.Store.{Store, new, time_zone_set, set_time_zone, windows_tested, windows_read, set_dst_offset, store_loaded, load, factory_reset, store_after}
 use Rattle.model.specs.Output.{SizedCall, no_space, after_sized, store_after_sized}
 use Rattle.model.specs.Demand3.{Accepted, Demand3, Demand3Holds, Demand3Sized}
-use Rattle.model.proofs.Facts.{by_test, and_both, All-of, run_keeps}
+use Rattle.model.proofs.Facts.{by_test, All-of, run_keeps}
 use Rattle.model.proofs.Accepted.{kept_empty, kept_after, few_later}
 use Rattle.model.proofs.Windows.{at_most_one}
 use Rattle.model.proofs.Whole.{whole}
@@ -83,8 +78,8 @@ made : (r : Rules) (s : Store) (t : Bool) → allowed r ≡ t
 unfolding allowed
 made r s true e h =
     let q : record { rules = r; lists = empty; generation = 0 } ≡ s = cc in
-    record { rules = sym (ap (λ (x : Store). x.rules) q); lists = sym (ap (λ (x : Store). x.lists) q); room = leb-true 1 r.zone_limit (and_both _ _ e).0 }
-made r s false e h = let z : ◌≡◌ {A = ℕ} 0 1 = cc in absurd (omega arith)
+    record { rules = sym (ap (λ (x : Store). x.rules) q); lists = sym (ap (λ (x : Store). x.lists) q); room = leb-true 1 r.zone_limit (and_parts _ _ e).0 }
+made r s false e h = cc
 
 is_new : (r : Rules) (s : Store) → new r ≡ answers s → New r s
 unfolding new

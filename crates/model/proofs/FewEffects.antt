@@ -1,11 +1,5 @@
 -- No call asks for more than four effects.
-use Rattle.std.specs.Prelude.{Option, None, Some, is_some}
-use mathlib.Core.Bool.{Bool, true, false, not, ◌&&◌, cond}
-use mathlib.Core.List.{List, [], ◌∷◌, ◌++◌}
-use Prim.Native.Nat.{ℕ, zero, suc, ◌≤◌}
-use native.Mathlib.Omega.{arith}
-use lib.Dec.{lit≤}
-use lib.ListN.{length, length-append}
+use Rattle.std.proofs.Common.{Option, None, Some, is_some, Bool, true, false, not, ◌&&◌, cond, List, [], ◌∷◌, ◌++◌, ℕ, zero, suc, ◌≤◌, arith, lit≤, length, length-append}
 use Rattle.model.specs.declared.TimeGranularity.{TimeGranularity}
 use Rattle.model.specs.declared.TimeSource.{TimeSource}
 use Rattle.model.specs.declared.TimeSource.TheVariants.{Admin, NodeTimeCluster}

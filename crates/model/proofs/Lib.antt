@@ -1,4 +1,3 @@
-pub mod Past
 pub mod Facts
 pub mod Moments
 pub mod Accepted

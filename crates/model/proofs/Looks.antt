@@ -1,15 +1,7 @@
 -- What holds of the timer's looks.
-use Rattle.std.specs.Prelude.{Option, None, Some, is_some}
-use mathlib.Core.Bool.{Bool, true, false, not, ◌&&◌, beq, cond}
-use mathlib.Core.List.{List, [], ◌∷◌, ◌++◌}
-use mathlib.Core.Path.{◌≡◌, refl, sym, ap, ◌∙◌}
-use Prim.Native.Nat.{ℕ, suc, ◌+◌, ◌-◌, ◌≤◌, ◌<◌}
-use native.Mathlib.Nat.{le_refl}
-use native.Mathlib.Omega.{arith}
-use borrow.Author.Tests.{leb-true, leb-false, le-leb}
-use lib.Dec.{leb}
-use lib.IntN.{ℤ, pos, negsuc}
-use lib.Signed.{le_z}
+use Rattle.std.proofs.Common.{Option, None, Some, is_some, Bool, true, false, not, ◌&&◌, cond, List, [], ◌∷◌, ◌++◌, ◌≡◌, refl, sym, ap, ◌∙◌, ℕ, suc, ◌+◌, ◌-◌, ◌≤◌, ◌<◌, le_refl, arith, leb-true, leb-false, le-leb, leb, ℤ, pos, negsuc}
+use Rattle.std.proofs.Math.Bool.{beq}
+use Rattle.std.specs.Int.Signed.{le_z}
 use Rattle.model.specs.Basics.{when, All, smallest, held_at_top}
 use Rattle.model.specs.Lists.{Name, Lists}
 use Rattle.model.specs.Answers.{Event, DSTTableEmpty, DSTStatus, TimeZoneStatus}

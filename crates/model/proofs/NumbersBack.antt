@@ -1,6 +1,5 @@
 -- A number names what has it.
-use Rattle.std.specs.Prelude.{Some}
-use mathlib.Core.Path.{◌≡◌, refl}
+use Rattle.std.proofs.Common.{Some, ◌≡◌, refl}
 use Rattle.model.specs.declared.TimeGranularity.{TimeGranularity}
 use Rattle.model.specs.declared.TimeGranularity.TheVariants as G
 use Rattle.model.specs.declared.TimeSource.{TimeSource}

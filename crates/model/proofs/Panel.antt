@@ -1,12 +1,7 @@
 -- What a panel shows, and when it is null.
-use Rattle.std.specs.Prelude.{Option, None, Some}
-use mathlib.Core.Bool.{Bool, true, false, cond, ◌&&◌}
-use mathlib.Core.List.{List, [], ◌∷◌}
-use mathlib.Core.Path.{◌≡◌, refl, sym, ap, ◌∙◌}
-use Prim.Native.Nat.{ℕ, suc}
-use native.Mathlib.Omega.{arith}
-use borrow.Author.Tests.{lt-ltb}
-use lib.IntN.{ℤ, pos, negsuc, ◌+ℤ◌, ◌*ℤ◌}
+use Rattle.std.proofs.Common.{Option, None, Some, Bool, true, false, cond, List, [], ◌∷◌, ◌≡◌, refl, sym, ap, ◌∙◌, ℕ, ℤ, pos, ◌+ℤ◌, ◌*ℤ◌}
+use Rattle.std.proofs.Math.Bool.{and-false}
+use Rattle.std.proofs.Math.IntN.{+ℤ_idr}
 use Rattle.model.specs.Basics.{keep, any, last}
 use Rattle.model.specs.Lists.{Lists, Window}
 use Rattle.model.specs.Answers.{Answer, answers}
@@ -45,10 +40,6 @@ shown_with : (l : Lists) (utc : ℕ) (o : Option Window) → last_active_window 
 unfolding shown combined_offset
 shown_with l utc o e = rw e refl
 
-add_0 : (z : ℤ) → z +ℤ pos 0 ≡ z
-add_0 (pos n) = ap pos (omega arith)
-add_0 (negsuc n) = rw (lt-ltb 0 (suc n) (omega arith)) (ap negsuc (omega arith))
-
 -- where no window is active, there is no last one
 no_last : (l : Lists) (utc : ℕ) → active_windows l utc ≡ [] → last_active_window l utc ≡ None
 unfolding last_active_window last
@@ -58,11 +49,7 @@ pub between_windows : BetweenWindows
 between_windows l utc u e =
     shows l utc u
     ∙ ap (λ (m : ℕ). answers (Some m)) (shown_with l utc None (no_last l utc e)
-    ∙ ap (λ (z : ℤ). held (pos utc +ℤ z *ℤ pos 1000000)) (add_0 (active_zone l utc).offset))
-
-and_false : (a : Bool) → a && false ≡ false
-and_false true = refl
-and_false false = refl
+    ∙ ap (λ (z : ℤ). held (pos utc +ℤ z *ℤ pos 1000000)) (+ℤ_idr (active_zone l utc).offset))
 
 -- where no window is usable, none is active
 none_active : (utc : ℕ) (ws : List Window) → any (is_usable utc) ws ≡ false → keep (is_active utc) ws ≡ []
@@ -70,8 +57,8 @@ unfolding keep any
 none_active utc [] e = refl
 none_active utc (w ∷ ws) e =
     by_test (is_usable utc w)
-    (λ t. let z : ◌≡◌ {A = Bool} true false = rw t at e in cc)
-    (λ t. rw (t, and_false) (none_active utc ws (rw t at e)))
+    (λ t. let z = rw t at e in cc)
+    (λ t. rw (t, and-false) (none_active utc ws (rw t at e)))
 
 no_active : (l : Lists) (utc : ℕ) → usable l utc ≡ false → active_windows l utc ≡ []
 unfolding usable

@@ -1,24 +1,11 @@
 -- Bytes that are readable are the writing of what they read as, whose numbers fit their types.
-use Rattle.std.specs.Prelude.{Option, None, Some}
-use mathlib.Core.Bool.{Bool, true, false}
-use mathlib.Core.List.{List, [], ◌∷◌, ◌++◌, append_assoc, append-nil}
-use mathlib.Core.Path.{◌≡◌, refl, sym, ap, subst, ◌∙◌}
-use Prim.Native.Nat.{ℕ, zero, suc, ◌^◌, ◌<◌}
-use native.Mathlib.Omega.{arith}
-use borrow.Author.Tests.{leb-true}
-use lib.Dec.{leb}
-use lib.IntN.{ℤ}
-use lib.ListN.{length, take, drop, take-append-drop}
-use lib.Seq.{length-take-le}
+use Rattle.std.proofs.Common.{Option, None, Some, Bool, true, false, List, [], ◌∷◌, ◌++◌, append_assoc, append-nil, ◌≡◌, refl, sym, ap, subst, ◌∙◌, ℕ, zero, suc, ◌^◌, ◌<◌, arith, leb-true, leb, ℤ, length, take, drop, take-append-drop, length-take-le}
 use Rattle.model.specs.Basics.{All}
 use Rattle.model.specs.Lists.{Name, Zone, Window, Lists}
 use Rattle.model.specs.Bytes.{bytes, number, bits_of, signed, well_formed, name_bytes, zone_bytes, until_bytes, window_bytes, all_bytes, section_bytes, zones_bytes, windows_bytes, record_bytes, Front, then, take_bytes, byte, named, read_name, read_until, read_entry, make_zone, make_window, read_zone, read_window, read_all, read_section, whole, nothing_left, read_sections, read_zones, read_windows, read_record}
 use Rattle.model.specs.RoundTrip.{AreBytes, IsOffset, IsMoment, IsName, IsUntil, ZoneFits, WindowFits, ListsFit, ZonesWritten, WindowsWritten, RecordWritten}
 use Rattle.model.proofs.Facts.{by_test, All-left, All-right}
 use Rattle.model.proofs.Words.{number_below, bytes_number, bits_signed, signed_fits}
-
-no : {A : Type 0} {C : Type 0} (a : A) → ◌≡◌ {A = Option A} None (Some a) → C
-no a h = let z : ◌≡◌ {A = ℕ} 0 1 = cc in absurd (omega arith)
 
 -- ## One reader after another
 
@@ -29,7 +16,7 @@ record Taken {A B : Type 0} (f : Front A) (go : A → List ℕ → Front B) (x :
   on : go took left ≡ Some x
 
 taken : {A B : Type 0} (f : Front A) (go : A → List ℕ → Front B) (x : B × List ℕ) → then f go ≡ Some x → Taken f go x
-taken None go x h = no x h
+taken None go x h = cc
 taken (Some p) go x h = record { took = p.0; left = p.1; is = refl; on = h }
 
 pair_left : {A B : Type 0} (a a' : A) (b b' : B) → ◌≡◌ {A = Option (A × B)} (Some (a, b)) (Some (a', b')) → a ≡ a'
@@ -59,10 +46,10 @@ bytes_off n s x t b h =
       off s x t b (sym (take-append-drop n s) ∙ ap (λ (l : List ℕ). l ++ drop n s) p ∙ ap (λ (l : List ℕ). x ++ l) q),
       ap length (sym p) ∙ length-take-le n s (leb-true n (length s) e),
     ))
-    (λ e. let k : ◌≡◌ {A = Front (List ℕ)} None (Some (x, t)) = rw e at h in no (x, t) k)
+    (λ e. let k : ◌≡◌ {A = Front (List ℕ)} None (Some (x, t)) = rw e at h in cc)
 
 byte_off : (s : List ℕ) (m : ℕ) (t : List ℕ) → AreBytes s → byte s ≡ Some (m, t) → Off s (m ∷ []) t
-byte_off [] m t b h = no (m, t) h
+byte_off [] m t b h = cc
 byte_off (x ∷ s) m t b h =
     off (x ∷ s) (m ∷ []) t b
     (ap (λ (y : ℕ). y ∷ s) (pair_left x m s t h) ∙ ap (λ (l : List ℕ). m ∷ l) (pair_right x m s t h))
@@ -128,7 +115,7 @@ named_off : (w : Bool) (n : Name) (s : List ℕ) (a : Option Name) (t : List ℕ
     → (a ≡ Some n) × ((s ≡ t) × (well_formed n ≡ true))
 unfolding named
 named_off true n s a t e h = (sym (pair_left (Some n) a s t h), (pair_right (Some n) a s t h, e))
-named_off false n s a t e h = no (a, t) h
+named_off false n s a t e h = cc
 
 name_off : (m : ℕ) (s : List ℕ) (a : Option Name) (t : List ℕ) → AreBytes s → m < 256 → read_name m s ≡ Some (a, t)
     → (m ∷ s ≡ name_bytes a ++ t) × (IsName a × AreBytes t)
@@ -151,7 +138,7 @@ name_off (suc zero) s a t b l h =
           ∙ ap (λ (x : Option Name). name_bytes x ++ t) (sym e.0),
       (subst IsName (sym e.0) (e.1.1, few, od.0.taken_bytes), subst AreBytes e.1.0 od.0.left_bytes),
     )
-name_off (suc (suc m)) s a t b l h = no (a, t) h
+name_off (suc (suc m)) s a t b l h = cc
 
 until_off : (m : ℕ) (s : List ℕ) (a : Option ℕ) (t : List ℕ) → AreBytes s → m < 256 → read_until m s ≡ Some (a, t)
     → (m ∷ s ≡ until_bytes a ++ t) × (IsUntil a × AreBytes t)
@@ -172,7 +159,7 @@ until_off (suc zero) s a t b l h =
           ∙ ap (λ (x : Option ℕ). until_bytes x ++ t) p,
       (subst IsUntil p n8, subst AreBytes q oc.0.left_bytes),
     )
-until_off (suc (suc m)) s a t b l h = no (a, t) h
+until_off (suc (suc m)) s a t b l h = cc
 
 -- ## A zone and a window
 
@@ -262,10 +249,10 @@ module _ {A : Type 0} (entry_bytes : A → List ℕ) (read_one : List ℕ → Fr
 
 whole_left : {A : Type 0} (a x : A) (s : List ℕ) → nothing_left a s ≡ Some x → ◌≡◌ {A = Front A} (Some (a, s)) (Some (x, []))
 whole_left a x [] h = let q : a ≡ x = cc in ap (λ y. Some (y, [])) q
-whole_left a x (b ∷ s) h = no x h
+whole_left a x (b ∷ s) h = cc
 
-whole_is : {A : Type 0} (f : Front A) (x : A) → whole f ≡ Some x → f ≡ Some (x, [])
-whole_is None x h = no x h
+pub whole_is : {A : Type 0} (f : Front A) (x : A) → whole f ≡ Some x → f ≡ Some (x, [])
+whole_is None x h = cc
 whole_is (Some p) x h = whole_left p.0 x p.1 h
 
 zone_section : (s : List ℕ) (zs : List Zone) (t : List ℕ) → AreBytes s → read_section read_zone s ≡ Some (zs, t) → Section zone_bytes read_zone ZoneFits zone_off s zs t

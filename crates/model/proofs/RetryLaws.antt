@@ -1,15 +1,5 @@
 -- The retry after failures in a row, what starts the retries over, and the distance of events of one kind.
-use Rattle.std.specs.Prelude.{Option, None, Some, is_some}
-use mathlib.Core.Bool.{Bool, true, false, ◌&&◌, cond}
-use mathlib.Core.List.{List, [], ◌∷◌, ◌++◌, map, append-nil}
-use mathlib.Core.Path.{◌≡◌, refl, ap, ◌∙◌}
-use Prim.Native.Nat.{ℕ, ◌+◌, ◌*◌, ◌^◌, ◌≤◌, min}
-use native.Mathlib.Nat.{pow-suc, mul_assoc, mul_comm, mul-le-mul_left}
-use native.Mathlib.Omega.{arith}
-use borrow.Author.Tests.{leb-true, leb-false}
-use lib.Dec.{leb}
-use lib.ListN.{length}
-use lib.Pow.{pow_pos}
+use Rattle.std.proofs.Common.{Option, None, Some, is_some, Bool, true, false, ◌&&◌, cond, List, [], ◌∷◌, ◌++◌, map, append-nil, ◌≡◌, refl, ap, ◌∙◌, ℕ, ◌+◌, ◌*◌, ◌^◌, ◌≤◌, min, pow-suc, mul_assoc, mul_comm, mul-le-mul_left, arith, leb-true, leb-false, leb, length, pow_pos}
 use Rattle.model.specs.Basics.{keep, when, All, run}
 use Rattle.model.specs.Answers.{Effect}
 use Rattle.model.specs.Clock.{Clock, set_utc_time, set_utc_time_persist}

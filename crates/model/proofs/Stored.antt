@@ -1,13 +1,6 @@
 -- The record of accepted lists reads back, is taken and is short enough; and so is the record that a store holds after any calls.
-use Rattle.std.specs.Prelude.{Option, None, Some}
-use mathlib.Core.Bool.{true}
-use mathlib.Core.List.{List, [], ◌∷◌, ◌++◌}
-use mathlib.Core.Path.{◌≡◌, refl, ap, ◌∙◌}
-use Prim.Native.Nat.{ℕ, suc, ◌*◌, ◌≤◌}
-use native.Mathlib.Omega.{arith}
-use borrow.Author.Tests.{leb-true}
-use lib.Dec.{leb, lit<, lit≤}
-use lib.ListN.{length, length-append}
+use Rattle.std.proofs.Common.{Option, None, Some, true, List, [], ◌∷◌, ◌++◌, ◌≡◌, refl, ap, ◌∙◌, ℕ, suc, ◌*◌, ◌≤◌, arith, leb-true, leb, lit<, lit≤, length, length-append}
+use Rattle.std.proofs.lemmas.Bool.{and_parts}
 use Rattle.model.specs.Basics.{All, run}
 use Rattle.model.specs.Lists.{Name, Zone, Window, Lists, empty}
 use Rattle.model.specs.Rules.{Rules, allowed, Verdict, accepted, test_from, name_fits, zone_rule, test_zones, test_windows}
@@ -17,7 +10,7 @@ use Rattle.model.specs.Output.{SizedCall, no_space, after_sized}
 use Rattle.model.specs.Demand3.{Accepted}
 use Rattle.model.specs.RoundTrip.{AreBytes, ZonesFit, WindowsFit, ListsFit, ReadsBack, AcceptedReadsBack, CallBytes, StoredReadsBack, StoredReadsBackSized}
 use Rattle.model.proofs.Accepted.{entry, zone_meets, accepted_record, kept_empty, kept_after, either, zones_fit, windows_fit}
-use Rattle.model.proofs.Facts.{by_test, and_both, run_keeps}
+use Rattle.model.proofs.Facts.{by_test, run_keeps}
 use Rattle.model.proofs.Words.{length_bytes}
 use Rattle.model.proofs.ReadBack.{zones_written, windows_written, record_written}
 use Rattle.model.proofs.WriteBack.{record_back}
@@ -98,9 +91,9 @@ pub record Limits (r : Rules) : Type 0 where
 pub limits : (r : Rules) → allowed r ≡ true → Limits r
 unfolding allowed
 limits r h =
-    let a = and_both (leb 1 r.zone_limit) _ h in
-    let b = and_both (leb r.zone_limit 8) _ a.1 in
-    let c = and_both (leb 1 r.window_limit) _ b.1 in
+    let a = and_parts (leb 1 r.zone_limit) _ h in
+    let b = and_parts (leb r.zone_limit 8) _ a.1 in
+    let c = and_parts (leb 1 r.window_limit) _ b.1 in
     record { zones = leb-true r.zone_limit 8 b.0; windows = leb-true r.window_limit 16 c.1 }
 
 pub accepted_reads_back : AcceptedReadsBack

@@ -1,5 +1,5 @@
 -- Every row of the table holds, by computation.
-use mathlib.Core.Path.{◌≡◌, refl}
+use Rattle.std.proofs.Common.{◌≡◌, refl}
 use Rattle.model.specs.Basics.{keep, any, first, last, least_of, smallest}
 use Rattle.model.specs.Lists.{Lists}
 use Rattle.model.specs.Rules.{device, accepted, demand, and_then, test_from, zone_rule, window_rule, test_zones, test_windows}

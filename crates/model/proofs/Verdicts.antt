@@ -1,8 +1,5 @@
 -- A store's call answers what the rules say of its argument.
-use Rattle.std.specs.Prelude.{Option, None, Some}
-use mathlib.Core.List.{List}
-use mathlib.Core.Path.{◌≡◌, refl}
-use Prim.Native.Nat.{ℕ}
+use Rattle.std.proofs.Common.{Option, None, Some, List, ◌≡◌, refl, ℕ}
 use Rattle.model.specs.Lists.{Window}
 use Rattle.model.specs.Rules.{Verdict, accepted, turned_down, test_windows}
 use Rattle.model.specs.Bytes.{read_windows}

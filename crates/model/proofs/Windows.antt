@@ -1,24 +1,17 @@
 -- On accepted windows at most one is active, so the first active one is the last.
-use Rattle.std.specs.Prelude.{Option, None, Some}
-use mathlib.Core.Bool.{Bool, true, false, not}
-use mathlib.Core.List.{List, [], ◌∷◌}
-use mathlib.Core.Path.{◌≡◌, refl}
-use Prim.Native.Nat.{ℕ, suc, ◌≤◌, ◌<◌}
-use native.Mathlib.Omega.{arith}
-use borrow.Author.Tests.{ltb-true, leb-true, leb-false, lt-ltb, lt-leb, not-true}
-use lib.Dec.{leb}
-use lib.ListN.{length}
+use Rattle.std.proofs.Common.{Option, None, Some, true, not, List, [], ◌∷◌, ◌≡◌, refl, ℕ, suc, ◌≤◌, ◌<◌, arith, ltb-true, leb-true, leb-false, lt-ltb, leb, length}
+use Rattle.std.proofs.lemmas.Bool.{and_parts, lt-leb, not-true}
 use Rattle.model.specs.Basics.{keep, first, last}
 use Rattle.model.specs.Lists.{Window}
 use Rattle.model.specs.Rules.{accepted, test_from, window_rule, reached, test_windows}
 use Rattle.model.specs.Lookups.{not_ended, is_active, active_window, last_active_window}
 use Rattle.model.specs.Claims.{AtMostOneActive}
-use Rattle.model.proofs.Facts.{by_test, and_both}
+use Rattle.model.proofs.Facts.{by_test}
 use Rattle.model.proofs.Accepted.{entry, window_meets}
 
 -- a window that starts at or after the end `u`, which is still to come, starts later
 starts_later : (now start : ℕ) (u : Option ℕ) → reached start u ≡ true → not_ended now u ≡ true → now < start
-starts_later now start None h n = let z : ◌≡◌ {A = Bool} false true = h in let q : ◌≡◌ {A = ℕ} 0 1 = cc in absurd (omega arith)
+starts_later now start None h n = cc
 starts_later now start (Some e) h n = let a = leb-true e start h in let b = ltb-true now e n in omega arith
 
 -- and has not ended
@@ -52,7 +45,7 @@ module _ (limit now : ℕ) where
   one index before (w ∷ ws) h =
       let e = entry limit window_rule index before w ws h in
       by_test (is_active now w)
-      (λ t. rw (t, none_after (suc index) w ws e.rest (and_both (leb w.start now) _ t).1) (omega arith))
+      (λ t. rw (t, none_after (suc index) w ws e.rest (and_parts (leb w.start now) _ t).1) (omega arith))
       (λ f. rw f (one (suc index) (Some w) ws e.rest))
 
 pub at_most_one : AtMostOneActive

@@ -1,13 +1,5 @@
 -- What is written reads back.
-use Rattle.std.specs.Prelude.{Option, None, Some}
-use mathlib.Core.List.{List, [], ◌∷◌, ◌++◌, append_assoc, append-nil}
-use mathlib.Core.Path.{◌≡◌, refl, sym, ap, ◌∙◌}
-use Prim.Native.Nat.{ℕ, ◌≤◌}
-use native.Mathlib.Omega.{arith}
-use borrow.Author.Tests.{le-leb}
-use lib.IntN.{ℤ}
-use lib.ListN.{length, length-append}
-use lib.Seq.{take_at, drop_at}
+use Rattle.std.proofs.Common.{Option, None, Some, List, [], ◌∷◌, ◌++◌, append_assoc, append-nil, ◌≡◌, refl, sym, ap, ◌∙◌, ℕ, ◌≤◌, arith, le-leb, ℤ, length, length-append, take_at, drop_at}
 use Rattle.model.specs.Basics.{All}
 use Rattle.model.specs.Lists.{Name, Zone, Window, Lists}
 use Rattle.model.specs.Bytes.{bytes, bits_of, name_bytes, zone_bytes, until_bytes, window_bytes, all_bytes, section_bytes, zones_bytes, windows_bytes, record_bytes, Front, then, take_bytes, named, read_name, read_until, read_entry, make_zone, make_window, read_zone, read_window, read_all, read_section, whole, read_zones, read_windows, read_record}

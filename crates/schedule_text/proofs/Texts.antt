@@ -1,15 +1,13 @@
 -- Texts written over zeros, and what is printed of a record that was read.
-use mathlib.Core.List.{List, ◌++◌, append_assoc}
-use mathlib.Core.Path.{◌≡◌, refl, ap, ◌∙◌}
-use Prim.Native.Nat.{ℕ, ◌+◌, ◌-◌, ◌*◌, ◌≤◌}
-use native.Mathlib.Omega.{arith}
-use lib.ListN.{length, drop, replicate}
+use Rattle.std.proofs.Common.{List, ◌++◌, append_assoc, ◌≡◌, refl, ap, ◌∙◌, ℕ, ◌+◌, ◌-◌, ◌*◌, ◌≤◌, arith, length, drop, replicate}
+use Rattle.std.proofs.Math.ListN.{length-replicate}
 use Rattle.model.specs.Lists.{Lists}
 use Rattle.model.specs.Bytes.{all_bytes}
 use Rattle.model.specs.Walk.{Walk}
 use Rattle.model.specs.Schedule.{header, steps_word, new_line, decimal, line, walk_text}
 use Rattle.word.specs.Place.{put}
-use Rattle.word.proofs.Writes.{zeros, length_zeros, drop_zeros, all_short}
+use Rattle.std.proofs.lemmas.List.{drop-replicate}
+use Rattle.word.proofs.Writes.{all_short}
 use Rattle.text.proofs.Digits.{decimal_length}
 use Rattle.text.specs.declared.Writer.{Writer}
 use Rattle.text.specs.Written.{Wrote}
@@ -19,14 +17,14 @@ use Rattle.schedule_text.specs.Texts.{text_of}
 use Rattle.schedule_text.proofs.Words.{line_length}
 
 -- words over zeros from the front on are a text
-pub text_is : {w v : Writer} {xs : List ℕ} {most : ℕ} → Run w v xs most → w.at ≡ 0 → w.out.now ≡ zeros 2879 → record { bytes = v.out.now; length = v.at } ≡ text_of xs
+pub text_is : {w v : Writer} {xs : List ℕ} {most : ℕ} → Run w v xs most → w.at ≡ 0 → w.out.now ≡ replicate 2879 0 → record { bytes = v.out.now; length = v.at } ≡ text_of xs
 unfolding text_of
 text_is {w} {v} {xs} c z e =
     let n : v.at ≡ length xs = omega (arith, c.place) in
     let k : 0 + length xs ≡ length xs = omega arith in
     let is : v.out.now ≡ xs ++ replicate (2879 - length xs) 0
     = c.bytes ∙ ap (λ (i : ℕ). put w.out.now i xs) z ∙ ap (λ (s : List ℕ). put s 0 xs) e
-    ∙ ap (λ (i : ℕ). xs ++ drop i (zeros 2879)) k ∙ ap (λ (l : List ℕ). xs ++ l) (drop_zeros (length xs) 2879) in
+    ∙ ap (λ (i : ℕ). xs ++ drop i (replicate 2879 0)) k ∙ ap (λ (l : List ℕ). xs ++ l) (drop-replicate (length xs) 2879 0) in
     rw (is, n) refl
 
 -- a text by value, from its bytes after the writer is let go
@@ -34,13 +32,13 @@ pub as_text : (v : Writer) {t : Text} {b : List ℕ} {n : ℕ} → record { byte
 as_text v p q r = rw (q, r) p
 
 -- a text of one word
-pub word_text : {w v : Writer} (ws : List ℕ) → Wrote w v ws → length ws ≤ 2879 → w.at ≡ 0 → w.out.now ≡ zeros 2879 → record { bytes = v.out.now; length = v.at } ≡ text_of ws
-word_text ws p h z e = let s = length_zeros 2879 in let k = ap length e in text_is (more (no_word (omega arith)) 2879 p h (omega arith)) z e
+pub word_text : {w v : Writer} (ws : List ℕ) → Wrote w v ws → length ws ≤ 2879 → w.at ≡ 0 → w.out.now ≡ replicate 2879 0 → record { bytes = v.out.now; length = v.at } ≡ text_of ws
+word_text ws p h z e = let s = length-replicate {A = ℕ} 2879 0 in let k = ap length e in text_is (more (no_word (omega arith)) 2879 p h (omega arith)) z e
 
 -- the header, the lines of a walk after it, and the steps after them
-module _ {w w₁ : Writer} (z : w.at ≡ 0) (e : w.out.now ≡ zeros 2879) (p₁ : Wrote w w₁ header) where
+module _ {w w₁ : Writer} (z : w.at ≡ 0) (e : w.out.now ≡ replicate 2879 0) (p₁ : Wrote w w₁ header) where
   long : length w.out.now ≡ 2879
-  long = ap length e ∙ length_zeros 2879
+  long = ap length e ∙ length-replicate {A = ℕ} 2879 0
 
   header_run : Run w w₁ header 23
   header_run = more (no_word (omega arith)) 23 p₁ (omega arith) (omega (arith, long))

@@ -1,12 +1,5 @@
 -- The words of a line, and how long it can be.
-use Rattle.std.specs.Prelude.{Option, None, Some}
-use mathlib.Core.Bool.{Bool, true, false}
-use mathlib.Core.List.{List, [], ◌++◌, append_assoc}
-use mathlib.Core.Path.{◌≡◌, sym, subst}
-use Prim.Native.Nat.{ℕ, ◌+◌, ◌*◌, ◌≤◌, ◌<◌}
-use native.Mathlib.Omega.{arith}
-use lib.IntN.{ℤ}
-use lib.ListN.{length, length-append, take, get_or}
+use Rattle.std.proofs.Common.{Option, None, Some, Bool, true, false, List, [], ◌++◌, append_assoc, ◌≡◌, sym, subst, ℕ, ◌+◌, ◌*◌, ◌≤◌, ◌<◌, arith, ℤ, length, length-append, take, get_or}
 use Rattle.model.specs.Lists.{Lists}
 use Rattle.model.specs.Lookups.{active_zone, active_offset, usable}
 use Rattle.model.specs.Schedule.{decimal, signed_decimal, offset_or_dash, yes_or_no, space, new_line, line}

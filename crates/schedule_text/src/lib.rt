@@ -12,24 +12,22 @@ ghost use Rattle.schedule_text.specs.Texts.{text_of};
 use lines::MOST_LINE;
 use lookups::MOST_MOMENTS;
 use table::layout::{END, MOST_NAME, MOST_WINDOWS, MOST_ZONES, NAME, SIZE};
-use text::Writer;
+use text::{MOST_DIGITS, Writer};
+use word::WORD;
 
-// The line of the names, and the longest line of the steps.
-const NAMES_LINE: usize = 23;
+// The line of the names, and the word before the steps.
+const HEADER: &[u8] = b"moment zone dst usable\n";
 
-const STEPS_LINE: usize = 27;
+const STEPS: &[u8] = b"steps ";
 
-// The longest text: both, and a line for each moment of the longest walk between them.
-const MOST_TEXT: usize = NAMES_LINE + MOST_LINE * MOST_MOMENTS + STEPS_LINE;
-
-// The bytes of the moment, which stands before the record.
-const MOMENT_SIZE: usize = 8;
+// The longest text: the header, a line for each moment of the longest walk, and the line of the steps.
+const MOST_TEXT: usize = HEADER.len() + MOST_LINE * MOST_MOMENTS + STEPS.len() + MOST_DIGITS + 1;
 
 // The longest record: two counts, the zones up to the ends of their names, and the windows up to their ends.
-const MOST_RECORD: usize = 2 + (NAME + MOST_NAME) * MOST_ZONES + (END + MOMENT_SIZE) * MOST_WINDOWS;
+const MOST_RECORD: usize = 2 + (NAME + MOST_NAME) * MOST_ZONES + (END + WORD) * MOST_WINDOWS;
 
 // The longest input: a moment and the longest record.
-pub const MOST_INPUT: usize = MOMENT_SIZE + MOST_RECORD;
+pub const MOST_INPUT: usize = WORD + MOST_RECORD;
 
 // Some text, zeros after it, and how many bytes it has. There is no heap, so it stands in an array with room for the longest text.
 #[derive(Clone, Copy)]
@@ -39,7 +37,8 @@ pub struct Text {
 }
 
 impl Text {
-    // The text, with nothing after it.
+    // The text, with nothing after it. The length is held at the array's: as a ghost field (tried) the bound needs a proof wherever the
+    // contracts name a text, which is no plainer.
     pub fn as_bytes(&self) -> &[u8]
         ensures { result.now ≡ take self.now.length self.now.bytes }
     {
@@ -65,9 +64,9 @@ fn walked(table: &[u8], start: u64) -> Text
     let walk = lookups::transitions::walk(table, start);
     let mut bytes = [0u8; MOST_TEXT];
     let mut out = Writer::new(&mut bytes, 0);
-    out.word(b"moment zone dst usable\n");
+    out.word(HEADER);
     lines::put_lines(&mut out, table, walk.walked());
-    out.word(b"steps ");
+    out.word(STEPS);
     out.decimal(walk.steps as u64);
     out.word(b"\n");
     let length = out.place();
@@ -79,13 +78,16 @@ pub fn schedule(input: &[u8]) -> Text
     ensures says { result ≡ text_of (schedule input.now) }
     ensures fits { result.length ≤ length result.bytes }
 {
-    if input.len() < MOMENT_SIZE || MOST_INPUT < input.len() {
+    if MOST_INPUT < input.len() {
         return refused();
     }
+    let Some((moment, record)) = input.split_first_chunk::<WORD>() else {
+        return refused();
+    };
     let mut table = [0u8; SIZE];
     let _ = table::new(&mut table, MOST_ZONES, MOST_WINDOWS);
-    match table::load(&mut table, &input[MOMENT_SIZE..]) {
+    match table::load(&mut table, record) {
         Err(_) => refused(),
-        Ok(()) => walked(&table, word::or_zero::u64_at(input, 0)),
+        Ok(()) => walked(&table, u64::from_le_bytes(*moment)),
     }
 }

@@ -7,10 +7,15 @@ ghost use Rattle.table.specs.Layout.{lists_in};
 
 use lookups::windows::{active_dst_offset, dst_usable};
 use lookups::zones::zone_offset;
-use text::Writer;
+use text::{MOST_DIGITS, MOST_SIGNED, Writer};
 
-// The longest line: a moment, two offsets, `yes`, the spaces between them and a line feed.
-pub(crate) const MOST_LINE: usize = 69;
+// Whether a window is usable.
+const YES: &[u8] = b"yes";
+
+const NO: &[u8] = b"no";
+
+// The longest line: a moment, two offsets and `yes`, with a space or a line feed after each.
+pub(crate) const MOST_LINE: usize = (MOST_DIGITS + 1) + 2 * (MOST_SIGNED + 1) + (YES.len() + 1);
 
 // Writes an offset, and `-` where there is none.
 fn put_offset(out: &mut Writer, offset: Option<i32>)
@@ -26,11 +31,7 @@ fn put_offset(out: &mut Writer, offset: Option<i32>)
 fn put_yes_or_no(out: &mut Writer, yes: bool)
     ensures { Wrote out.old out.new (yes_or_no yes) }
 {
-    if yes {
-        out.word(b"yes")
-    } else {
-        out.word(b"no")
-    }
+    out.word(if yes { YES } else { NO });
 }
 
 // Writes what a reader sees from a moment on: the zone's offset, the active window's and whether a window is usable.

@@ -6,10 +6,10 @@ ghost use Rattle.model.specs.Schedule.{decimal, signed_decimal};
 ghost use Rattle.text.specs.Written.{Wrote};
 
 // The most digits of a 64-bit number.
-const MOST_DIGITS: usize = 20;
+pub const MOST_DIGITS: usize = 20;
 
 // The same, with a sign before them.
-const MOST_SIGNED: usize = MOST_DIGITS + 1;
+pub const MOST_SIGNED: usize = MOST_DIGITS + 1;
 
 // Lent bytes, and the place where the next word goes.
 #[derive(Drop)]

@@ -1,17 +1,12 @@
 -- A run of writes, one after another from a place on.
-use Rattle.std.proofs.Common.{false, List, [], ◌∷◌, ◌++◌, append_assoc, append-nil, ◌≡◌, refl, sym, ap, ◌∙◌, ℕ, zero, suc, ◌+◌, ◌*◌, ◌-◌, ◌≤◌, ◌<◌, add-zero, add-one, arith, length, take, drop, set, get_or, replicate, length-append, take-append-drop, take-suc}
+use Rattle.std.proofs.Common.{List, [], ◌∷◌, ◌++◌, append_assoc, append-nil, ◌≡◌, refl, sym, ap, ◌∙◌, ℕ, zero, suc, ◌+◌, ◌*◌, ◌-◌, ◌≤◌, ◌<◌, add-zero, add-one, arith, length, take, drop, set, get_or, replicate, length-append, take-append-drop, take-suc}
 use Rattle.std.proofs.Math.ListN.{length-replicate}
 use Rattle.model.specs.Bytes.{bytes, all_bytes}
 use Rattle.model.specs.Output.{copied_over}
 use Rattle.model.proofs.Words.{length_bytes}
-use Rattle.word.specs.Place.{fits_at, put, placed, copied}
+use Rattle.word.specs.Place.{put, placed, copied}
 use Rattle.word.proofs.Laws.{length_put, put_put, put_one}
 use Rattle.word.proofs.Places.{placed_there, copied_there}
-
--- bytes that do not fit are not put anywhere
-pub placed_short : (s : List ℕ) (at : ℕ) (bs : List ℕ) → fits_at s at (length bs) ≡ false → placed s at bs ≡ s
-unfolding placed
-placed_short s at bs h = rw h
 
 -- `n` zeros
 abbrev pub zeros : ℕ → List ℕ

@@ -6,7 +6,7 @@ pub mod or_zero;
 pub mod spelled;
 pub mod text;
 
-ghost use Rattle.std.specs.Prelude.{◌≡◌, ◌+◌, ◌*◌, ◌≤◌, length, take, drop};
+ghost use Rattle.std.specs.Prelude.{◌≡◌, ◌*◌, ◌≤◌, length};
 ghost use Rattle.model.specs.Bytes.{bytes, all_bytes, bits_of};
 ghost use Rattle.word.specs.Place.{fits_at, part_at, number_at, signed_at, put, placed, copied};
 
@@ -32,22 +32,22 @@ fn array_at<const N: usize>(s: &[u8], at: usize) -> Option<[u8; N]>
 fn put_bytes(out: &mut [u8], at: usize, part: &[u8]) -> bool
     ensures { (result ≡ fits_at out.old at (length part.now)) × (out.new ≡ placed out.old at part.now) }
 {
-    let n = part.len();
-    if in_bounds(out, at, n) {
-        out[at..at + n].copy_from_slice(part);
-        return true;
+    let fits = in_bounds(out, at, part.len());
+    if fits {
+        out[at..at + part.len()].copy_from_slice(part);
     }
-    false
+    fits
 }
 
-// Writes words one after another, each by way of an array: one load and one store. Here and below the place comes from `enumerate`: zipped
-// with `chunks_exact_mut` or `iter_mut` the proof doesn't close, since std says nothing of what the slice ends as.
+// Writes words one after another, each by value: from behind its reference (tried) the compiler moves one at a time, and a record takes four
+// times the instructions. Here and below the place comes from `enumerate`: zipped with `chunks_exact_mut` or `iter_mut` (tried) the proof
+// doesn't close, since std says nothing of what the slice ends as.
 fn put_words(out: &mut [u8], words: &[[u8; WORD]])
     requires { length out.old ≡ 8 * length words.now }
     ensures { out.new ≡ all_bytes (λ w. w) words.now }
 {
-    for (i, word) in words.iter().enumerate() {
-        out[WORD * i..WORD * (i + 1)].copy_from_slice(word);
+    for (i, &word) in words.iter().enumerate() {
+        out[WORD * i..WORD * (i + 1)].copy_from_slice(&word);
     }
 }
 
@@ -79,12 +79,11 @@ fn put_over(out: &mut [u8], part: &[u8])
 pub fn put(out: &mut [u8], at: usize, part: &[u8]) -> bool
     ensures { (result ≡ fits_at out.old at (length part.now)) × (out.new ≡ placed out.old at part.now) }
 {
-    let n = part.len();
-    if in_bounds(out, at, n) {
-        put_over(&mut out[at..at + n], part);
-        return true;
+    let fits = in_bounds(out, at, part.len());
+    if fits {
+        put_over(&mut out[at..at + part.len()], part);
     }
-    false
+    fits
 }
 
 // Copies n bytes of s from `from` on to `at`, where both slices have so many; else nothing.
@@ -163,9 +162,9 @@ fn put_numbers(out: &mut [u8], numbers: &[u64])
 pub fn put_u64s(out: &mut [u8], numbers: &[u64]) -> bool
     ensures { (result ≡ fits_at out.old 0 (8 * length numbers.now)) × (out.new ≡ placed out.old 0 (all_bytes (λ m. bytes 8 m) numbers.now)) }
 {
-    if in_bounds(out, 0, WORD * numbers.len()) {
+    let fits = in_bounds(out, 0, WORD * numbers.len());
+    if fits {
         put_numbers(out, numbers);
-        return true;
     }
-    false
+    fits
 }

@@ -1,6 +1,6 @@
 -- `schedule_text::walked` meets its contract: the header, the lines, and the steps after them.
 use Rattle.std.proofs.Common.{◌≡◌, ℕ, suc, ◌-◌, ◌≤◌, List, length, take, replicate, length-take, length-append, ap, ◌∙◌, arith, rules}
-use lib.ListN.{length-replicate}
+use Rattle.std.proofs.Math.ListN.{length-replicate}
 use Rattle.model.specs.Bytes.{all_bytes}
 use Rattle.model.specs.Walk as W
 use Rattle.model.specs.Schedule.{decimal, line}

@@ -1,6 +1,5 @@
 -- `schedule_text::lines::put_lines` meets its contract: the lines of the moments so far are written.
-use Rattle.std.proofs.Common.{ap, arith}
-use lib.Seq.{take_all}
+use Rattle.std.proofs.Common.{ap, arith, take_all}
 use Rattle.model.specs.Bytes.{all_bytes}
 use Rattle.model.specs.Schedule.{line}
 use Rattle.table.specs.Layout.{lists_in}
