@@ -106,6 +106,7 @@ pub fn generation(table: &[u8]) -> u32
 }
 
 // Counts one change more; after the largest number comes 0.
+#[tactic(auto, unfolding(crate::specs::Layout::counted))]
 pub(crate) fn count_change(table: &mut [u8])
     ensures { table.new ≡ counted table.old }
 {

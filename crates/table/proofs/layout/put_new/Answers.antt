@@ -1,7 +1,7 @@
 -- `layout::put_new` meets its contract: the limits are written, and behind them zeros.
 use Rattle.std.proofs.Common.{◌≡◌, ℕ, [], ◌∷◌, length, take, drop, replicate, set, sym, ap, ◌∙◌, arith, length-drop, length-take-le, length-set}
 use Rattle.std.proofs.lemmas.List.{length-replicate}
-use lib.Seq.{sets, sets-eq}
+use Rattle.std.proofs.lemmas.List.Edits.{sets, sets-eq}
 use Rattle.model.specs.Rules.{Rules}
 use Rattle.word.specs.Place.{placed}
 use Rattle.word.proofs.Frame.{placed_part, placed_else}
