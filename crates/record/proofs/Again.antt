@@ -1,15 +1,11 @@
 -- Writing and reading undo each other.
-use mathlib.Core.List.{List, ◌++◌}
-use mathlib.Core.Path.{◌≡◌, sym, ap, ◌∙◌, subst}
-use Prim.Native.Nat.{ℕ, ◌-◌, ◌≤◌}
-use lib.ListN.{length, take, replicate}
-use lib.Seq.{take-append_seam, take_all}
+use Rattle.std.proofs.Common.{List, ◌≡◌, sym, ap, ◌∙◌, subst, ℕ, ◌≤◌, length}
+use Rattle.std.proofs.Math.Seq.{take-append_seam}
 use Rattle.model.specs.Lists.{Lists}
 use Rattle.model.specs.Bytes.{record_bytes, record_most, read_record}
 use Rattle.model.proofs.WriteBack.{record_back}
 use Rattle.model.proofs.ReadBack.{record_written}
 use Rattle.model.proofs.Stored.{accepted_reads_back}
-use Rattle.record.specs.Data.{padded}
 use Rattle.record.specs.Written.{record_of}
 use Rattle.record.specs.RoundTrip.{bytes_of, WrittenReads, ReadWrites}
 
@@ -25,9 +21,3 @@ pub read_writes : ReadWrites
 read_writes r s l a b h k =
     let w = record_written s l b h in
     (subst (λ (x : List ℕ). length x ≤ record_most) (sym w.0) (accepted_reads_back r a l k w.1).short, bytes_are l ∙ sym w.0)
-
-module _ {A : Type 0} (n : ℕ) (blank : A) where
-  -- a list that fits is the front of what it is filled up to
-  pub padded_front : (xs : List A) → length xs ≤ n → take (length xs) (padded n blank xs) ≡ xs
-  padded_front xs h =
-      ap (λ (l : List A). take (length xs) (l ++ replicate (n - length xs) blank)) (take_all n xs h) ∙ take-append_seam xs (replicate (n - length xs) blank)

@@ -1,11 +1,5 @@
 -- Entry `i` of a readable request, as the readers answer it, is the `i`th of the list that it reads as.
-use Rattle.std.specs.Prelude.{Option, Some, option_map, option_and_then, slice_get}
-use mathlib.Core.List.{List, []}
-use mathlib.Core.Path.{◌≡◌, sym, ap, ◌∙◌}
-use Prim.Native.Nat.{ℕ, ◌≤◌, ◌<◌}
-use native.Mathlib.Omega.{arith}
-use borrow.Author.Tests.{lt-ltb}
-use lib.ListN.{length, drop, get_or}
+use Rattle.std.proofs.Common.{Option, Some, option_map, option_and_then, slice_get, List, [], ◌≡◌, sym, ap, ◌∙◌, ℕ, ◌≤◌, ◌<◌, arith, lt-ltb, length, drop, get_or}
 use Rattle.model.specs.Lists.{Name, Zone, Window}
 use Rattle.model.specs.Bytes.{Front, whole, read_zone, read_window, read_section, read_zones, read_windows}
 use Rattle.record.specs.Fronts.{zone_found, zone_at, window_found, window_at, next_zone, next_window, section_entry}

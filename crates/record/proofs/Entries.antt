@@ -1,14 +1,5 @@
 -- What the answers for a zone and for a window are, by their heads and what follows.
-use Rattle.std.specs.Prelude.{Some, None, option_map}
-use mathlib.Core.Bool.{Bool, true, false}
-use mathlib.Core.List.{List}
-use mathlib.Core.Path.{◌≡◌, refl, sym, ap, ◌∙◌}
-use Prim.Native.Nat.{ℕ, ◌+◌, ◌≤◌, ◌<◌}
-use native.Mathlib.Omega.{arith}
-use borrow.Author.Tests.{leb-true, lt-ltb, le-ltb, ltb-true, ltb-false}
-use lib.Dec.{ltb}
-use lib.IntN.{ℤ}
-use lib.ListN.{length, get_or}
+use Rattle.std.proofs.Common.{Some, None, option_map, Bool, true, false, List, ◌≡◌, refl, sym, ap, ◌∙◌, ℕ, ◌+◌, ◌≤◌, ◌<◌, arith, leb-true, lt-ltb, le-ltb, ltb-true, ltb-false, ltb, ℤ, length, get_or}
 use Rattle.std.specs.Bool.{then_some}
 use Rattle.model.proofs.Facts.{by_test}
 use Rattle.word.specs.Place.{number_at, text_at}
@@ -110,5 +101,10 @@ name_end s at {p} e =
     let n : Some p ≡ Some (record { at = at + 1; len = get_or s at 0 }) = e ∙ name_is s at (ltb-true at (length s) t) refl true u in
     let q : p ≡ record { at = at + 1; len = get_or s at 0 } = cc in
     rw q (leb-true (at + 1 + get_or s at 0) (length s) w.0))
-    (λ u. let n : Some p ≡ None = e ∙ name_is s at (ltb-true at (length s) t) refl false u in let z : ◌≡◌ {A = ℕ} 0 1 = cc in absurd (omega arith)))
-    (λ t. let n : Some p ≡ None = e ∙ name_past s at (ltb-false at (length s) t) in let z : ◌≡◌ {A = ℕ} 0 1 = cc in absurd (omega arith))
+    (λ u. let n : Some p ≡ None = e ∙ name_is s at (ltb-true at (length s) t) refl false u in cc))
+    (λ t. let n : Some p ≡ None = e ∙ name_past s at (ltb-false at (length s) t) in cc)
+
+-- the goals of `read_at`
+pub ruleset of_zone = (within, no_zone, zone_nameless, name_end)
+
+pub ruleset of_window = (within, no_window, window_short_end)

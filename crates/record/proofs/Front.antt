@@ -1,16 +1,5 @@
 -- What an entry at a place reads as, by the length of what is there, its mark and its name.
-use Rattle.std.specs.Prelude.{Option, None, Some}
-use mathlib.Core.Bool.{true, false}
-use mathlib.Core.List.{List, [], ◌∷◌}
-use mathlib.Core.Path.{◌≡◌, refl, ap, ◌∙◌}
-use Prim.Native.Nat.{ℕ, zero, suc, ◌+◌, ◌≤◌, ◌<◌}
-use native.Mathlib.Numerals.{add-one}
-use native.Mathlib.Omega.{arith}
-use borrow.Author.Tests.{leb-true, leb-false}
-use lib.Dec.{leb, lit<}
-use lib.IntN.{ℤ}
-use lib.ListN.{length, take, drop, get_or, length-drop}
-use lib.Seq.{drop-cons, length-take-le}
+use Rattle.std.proofs.Common.{Option, None, Some, true, false, List, [], ◌∷◌, ◌≡◌, refl, ap, ◌∙◌, ℕ, zero, suc, ◌+◌, ◌≤◌, ◌<◌, add-one, arith, leb-true, leb-false, leb, lit<, ℤ, length, take, drop, get_or, length-drop, drop-cons, length-take-le}
 use Rattle.model.specs.Lists.{Name}
 use Rattle.model.specs.Bytes.{Front, then, take_bytes, byte, named, read_name, read_until, read_entry, make_zone, make_window, number, signed, well_formed}
 use Rattle.model.proofs.Facts.{by_test}

@@ -36,3 +36,6 @@ module _ {E : Type 0} (found_at : List ℕ → ℕ → Option E) (next_of : E �
     pub index_within : i < get_or s 0 0 → section_entry found_at next_of s i ≡ option_and_then (found_at s) (place_after found_at next_of s 1 i)
     unfolding section_entry
     index_within h = rw (lt-ltb i (get_or s 0 0) h)
+
+-- the goals of `place_after`
+pub ruleset placing = (place_more, place_stops)

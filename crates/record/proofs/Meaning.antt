@@ -1,13 +1,5 @@
 -- What the readers' answers say of the entries that a section or a record reads as.
-use Rattle.std.specs.Prelude.{Option, None, Some, slice_get, option_map}
-use mathlib.Core.Bool.{cond}
-use mathlib.Core.List.{List, [], ◌∷◌}
-use mathlib.Core.Path.{◌≡◌, refl, sym, ap, ◌∙◌}
-use Prim.Native.Nat.{ℕ, zero, suc, ◌+◌, ◌-◌, ◌≤◌, ◌<◌}
-use native.Mathlib.Omega.{arith}
-use borrow.Author.Tests.{eq-eqb, ne_eqb, ltb-true, ltb-false}
-use lib.Dec.{eqb, ltb}
-use lib.ListN.{length, drop, get_or, length-drop}
+use Rattle.std.proofs.Common.{Option, None, Some, slice_get, option_map, cond, List, [], ◌∷◌, ◌≡◌, refl, sym, ap, ◌∙◌, ℕ, zero, suc, ◌+◌, ◌-◌, ◌≤◌, ◌<◌, arith, eq-eqb, ne_eqb, ltb-true, ltb-false, eqb, ltb, length, drop, get_or, length-drop}
 use Rattle.model.specs.Lists.{Zone, Window, Lists}
 use Rattle.model.specs.Bytes.{Front, then, byte, read_zone, read_window, read_all, read_section, whole, nothing_left, read_zones, read_windows, read_record}
 use Rattle.record.specs.Fronts.{place_of, section_found, section_at, is_whole, zones_whole, windows_whole, windows_found, zones_found, record_at, entries_at, place_after}
@@ -30,7 +22,7 @@ module _ {A : Type 0} (read_one : List ℕ → Front A) (leaves : Leaves read_on
       (λ ys u zs v k. let q : ◌≡◌ {A = List A × List ℕ} (x ∷ ys, u) (zs, v) = cc in record { at = 0; within = omega arith; is = sym (ap (λ p. p.1) q) })) s xs t h
 
   byte_leaves : Leaves byte
-  byte_leaves [] a t h = let z : ◌≡◌ {A = ℕ} 0 1 = cc in absurd (omega arith)
+  byte_leaves [] a t h = cc
   byte_leaves (x ∷ s) a t h = let q : ◌≡◌ {A = ℕ × List ℕ} (x, s) (a, t) = cc in record { at = 1; within = omega arith; is = sym (ap (λ p. p.1) q) }
 
   pub section_leaves : Leaves (read_section read_one)
@@ -74,7 +66,7 @@ module _ {A : Type 0} (read_one : List ℕ → Front A) (leaves : Leaves read_on
       record { there = k; count = sym c; entries = rw c r })
       (λ e. let k = ltb-false at (length s) e in
       let n : None ≡ Some (xs, t) = rw (no_byte s at k) at h in
-      let z : ◌≡◌ {A = ℕ} 0 1 = cc in record { there = absurd (omega arith); count = absurd (omega arith); entries = absurd (omega arith) })
+      record { there = cc; count = cc; entries = cc })
 
   -- the first of some entries, and the others behind it
   pub record First (s : List ℕ) (at n : ℕ) (xs : List A) (t : List ℕ) : Type 0 where
@@ -92,7 +84,7 @@ module _ {A : Type 0} (read_one : List ℕ → Front A) (leaves : Leaves read_on
     where
       more : (x : A) (u : List ℕ) (k : ℕ) → read_one (drop at s) ≡ Some (x, u) → u ≡ drop k s → k ≤ length s → (f : Front (List A)) → read_all read_one n u ≡ f
           → then f (λ ys s₂. Some (x ∷ ys, s₂)) ≡ Some (xs, t) → First s at n xs t
-      more x u k e d w None g q = let z : ◌≡◌ {A = ℕ} 0 1 = cc in record { head = x; tail = []; next = k; is = absurd (omega arith); read = absurd (omega arith); within = w; rest = absurd (omega arith) }
+      more x u k e d w None g q = record { head = x; tail = []; next = k; is = cc; read = cc; within = w; rest = cc }
       more x u k e d w (Some p) g q =
           let j : ◌≡◌ {A = List A × List ℕ} (x ∷ p.0, p.1) (xs, t) = cc in
           record {
@@ -106,7 +98,7 @@ module _ {A : Type 0} (read_one : List ℕ → Front A) (leaves : Leaves read_on
           }
 
       go : (f : Front A) → read_one (drop at s) ≡ f → then f (λ x s₁. then (read_all read_one n s₁) (λ ys s₂. Some (x ∷ ys, s₂))) ≡ Some (xs, t) → First s at n xs t
-      go None e q = let z : ◌≡◌ {A = ℕ} 0 1 = cc in absurd (omega arith)
+      go None e q = cc
       go (Some p) e q =
           let l = left_place s at p.1 h (leaves (drop at s) p.0 p.1 e) in
           more p.0 p.1 (place_of s p.1) e l.0 l.1 (read_all read_one n p.1) refl q
@@ -127,12 +119,12 @@ second zs f = whole (then f (λ ws s₂. Some (record { zones = zs; windows = ws
 
 -- with the first section's zones, the second is whole where the record is
 second_is : (zs : List Zone) (f : Front (List Window)) (l : Lists) → second zs f ≡ Some l → (whole f ≡ Some l.windows) × (zs ≡ l.zones)
-second_is zs None l h = let z : ◌≡◌ {A = ℕ} 0 1 = cc in (absurd (omega arith), absurd (omega arith))
+second_is zs None l h = (cc, cc)
 second_is zs (Some p) l h = go p.1 h
   where
     go : (t : List ℕ) → nothing_left (record { zones = zs; windows = p.0 }) t ≡ Some l → (nothing_left p.0 t ≡ Some l.windows) × (zs ≡ l.zones)
     go [] k = let q : record { zones = zs; windows = p.0 } ≡ l = cc in (ap (λ (x : Lists). Some x.windows) q, ap (λ (x : Lists). x.zones) q)
-    go (b ∷ t) k = let z : ◌≡◌ {A = ℕ} 0 1 = cc in (absurd (omega arith), absurd (omega arith))
+    go (b ∷ t) k = (cc, cc)
 
 second_none : (zs : List Zone) (f : Front (List Window)) → second zs f ≡ None → whole f ≡ None
 second_none zs None h = refl
@@ -167,7 +159,7 @@ module _ (s : List ℕ) where
         unreadable = λ h. ap (λ (f : Front (List Zone)). zones_found s (section_found s f)) e;
         readable = λ l h.
             let q : ◌≡◌ {A = Option Lists} None (Some l) = sym (ap (λ (f : Front (List Zone)). whole (then f (λ zs s₁. then (read_section read_window s₁) (λ ws s₂. Some (record { zones = zs; windows = ws }, s₂))))) e) ∙ h in
-            let z : ◌≡◌ {A = ℕ} 0 1 = cc in absurd (omega arith);
+            cc;
       }
   by_zones (Some p) e =
       let l = left_place s 0 p.1 (omega arith) (section_leaves read_zone zone_leaves s p.0 p.1 e) in

@@ -1,13 +1,5 @@
 -- A zone that was read at a place: its name stands where `name_place` says.
-use Rattle.std.specs.Prelude.{Option, None, Some}
-use mathlib.Core.Bool.{Bool, true, false}
-use mathlib.Core.List.{List, [], ◌∷◌}
-use mathlib.Core.Path.{◌≡◌, refl, sym, ap, ◌∙◌}
-use Prim.Native.Nat.{ℕ, zero, suc, ◌+◌, ◌≤◌}
-use native.Mathlib.Omega.{arith}
-use borrow.Author.Tests.{leb-true, leb-false}
-use lib.Dec.{leb}
-use lib.ListN.{length, take, drop, get_or}
+use Rattle.std.proofs.Common.{Option, None, Some, Bool, true, false, List, [], ◌∷◌, ◌≡◌, refl, sym, ap, ◌∙◌, ℕ, zero, suc, ◌+◌, ◌≤◌, arith, leb-true, leb-false, leb, length, take, drop, get_or}
 use Rattle.model.specs.Lists.{Name, Zone}
 use Rattle.model.specs.Bytes.{Front, then, take_bytes, byte, named, read_name, make_zone, read_zone, well_formed}
 use Rattle.model.proofs.Facts.{by_test}
@@ -38,7 +30,7 @@ module _ (s : List ℕ) (at : ℕ) where
       let q : ◌≡◌ {A = Option Name × List ℕ} (Some (bytes_there n), u) (a, t) = cc in
       let e : Some (bytes_there n) ≡ a = ap (λ p. p.0) q in
       rw (← e) (bytes_placed n)
-  name_off false n u a t h = let z : ◌≡◌ {A = ℕ} 0 1 = cc in absurd (omega arith)
+  name_off false n u a t h = cc
 
   -- a length byte and as many bytes
   long_off : (n : ℕ) (a : Option Name) (t : List ℕ) → then (take_bytes n (drop (at + 14) s)) (λ name s₂. named (well_formed name) name s₂) ≡ Some (a, t) → Placed a
@@ -47,7 +39,7 @@ module _ (s : List ℕ) (at : ℕ) where
       by_test (leb n (length (drop (at + 14) s)))
       (λ e. let k : named (well_formed (bytes_there n)) (bytes_there n) (drop n (drop (at + 14) s)) ≡ Some (a, t) = rw e at h in
       name_off (well_formed (bytes_there n)) n (drop n (drop (at + 14) s)) a t k)
-      (λ e. let k : ◌≡◌ {A = Front (Option Name)} None (Some (a, t)) = rw e at h in let z : ◌≡◌ {A = ℕ} 0 1 = cc in absurd (omega arith))
+      (λ e. let k : ◌≡◌ {A = Front (Option Name)} None (Some (a, t)) = rw e at h in cc)
 
   tail_off : (m : ℕ) (a : Option Name) (t : List ℕ) → at + 13 ≤ length s → read_name m (drop (at + 13) s) ≡ Some (a, t) → Placed a
   unfolding read_name
@@ -62,13 +54,13 @@ module _ (s : List ℕ) (at : ℕ) where
       let b : byte (drop (at + 13) s) ≡ Some (get_or s (at + 13) 0, drop (at + 14) s) = byte_at s (at + 13) (omega arith) ∙ ap (λ (j : ℕ). Some (get_or s (at + 13) 0, drop j s)) i in
       long_off (get_or s (at + 13) 0) a t (rw b at h))
       (λ e. let k = leb-false (at + 14) (length s) e in
-      let n : ◌≡◌ {A = Front (Option Name)} None (Some (a, t)) = rw (no_byte s (at + 13) (omega arith)) at h in let z : ◌≡◌ {A = ℕ} 0 1 = cc in absurd (omega arith))
-  tail_off (suc (suc m)) a t l h = let z : ◌≡◌ {A = ℕ} 0 1 = cc in absurd (omega arith)
+      let n : ◌≡◌ {A = Front (Option Name)} None (Some (a, t)) = rw (no_byte s (at + 13) (omega arith)) at h in cc)
+  tail_off (suc (suc m)) a t l h = cc
 
   -- what follows the mark, of a zone
   made : (f : Front (Option Name)) (z : Zone) (t : List ℕ) → then f (λ a s₄. Some (make_zone (offset_at s at) (start_at s at) a, s₄)) ≡ Some (z, t)
       → ((a : Option Name) (u : List ℕ) → f ≡ Some (a, u) → Placed a) → Placed z.name
-  made None z t h g = let y : ◌≡◌ {A = ℕ} 0 1 = cc in absurd (omega arith)
+  made None z t h g = cc
   made (Some p) z t h g =
       let q : ◌≡◌ {A = Zone × List ℕ} (make_zone (offset_at s at) (start_at s at) p.0, p.1) (z, t) = cc in
       let e : p.0 ≡ z.name = ap (λ y. y.0.name) q in
@@ -80,4 +72,4 @@ module _ (s : List ℕ) (at : ℕ) where
       (λ e. let k = leb-true (at + 13) (length s) e in
       made (read_name (get_or s (at + 12) 0) (drop (at + 13) s)) z t (sym (entry_there read_name make_zone s at k) ∙ h) (λ a u q. tail_off (get_or s (at + 12) 0) a u k q))
       (λ e. let n : ◌≡◌ {A = Front Zone} None (Some (z, t)) = sym (entry_short read_name make_zone s at (leb-false (at + 13) (length s) e)) ∙ h in
-      let y : ◌≡◌ {A = ℕ} 0 1 = cc in absurd (omega arith))
+      cc)

@@ -1,12 +1,6 @@
 -- A record, by the sections that a reader took one after the other.
-use Rattle.std.specs.Prelude.{Option, None, Some}
-use mathlib.Core.Bool.{Bool, true, false}
-use mathlib.Core.List.{List}
-use mathlib.Core.Path.{◌≡◌, refl, sym, ap, ◌∙◌}
-use Prim.Native.Nat.{ℕ}
-use lib.Dec.{eqb}
+use Rattle.std.proofs.Common.{Option, None, Some, Bool, true, false, List, ◌≡◌, refl, sym, ap, ◌∙◌, ℕ, eqb, length}
 use Rattle.std.specs.Bool.{then_some}
-use lib.ListN.{length}
 use Rattle.record.specs.declared.SectionRead.{SectionRead}
 use Rattle.model.specs.Bytes.{Front}
 use Rattle.record.specs.Fronts.{section_at, zones_at, windows_at, count_of, moved_to, is_whole, windows_found, zones_found, record_at}
@@ -53,3 +47,6 @@ module _ (s : List ℕ) where
         go : (b : Bool) → eqb k (length s) ≡ b → windows_found n at (is_whole (length s) (entries m k)) ≡ then_some b (record { zones = n; at = at; windows = m })
         go true t = rw t
         go false t = rw t
+
+-- the goals of `record`
+pub ruleset of_record = (no_zones, no_windows, both_taken, not_taken, taken)

@@ -142,3 +142,8 @@ window_reads s at e = record { found = e; read = λ h. rw e (go h (read_window (
     go : at ≤ length s → (f : Front Window) → read_window (drop at s) ≡ f → MatchOption (window_found s f) (read_window (drop at s) ≡ None) (λ w. EntryRead read_window s at (next_window w))
     go h None e = e
     go h (Some p) e = entry_read read_window window_leaves s at h p.0 p.1 e
+
+-- the goals of `place_after` and of `section_at`
+pub ruleset reading = (begins, stops, goes_on_lem, ends)
+
+pub ruleset of_section = (no_count, no_section, section_there)

@@ -1,15 +1,5 @@
 -- A reader leaves what stands from some place on.
-use Rattle.std.specs.Prelude.{Option, None, Some}
-use mathlib.Core.Bool.{Bool, true, false}
-use mathlib.Core.List.{List, [], ◌∷◌}
-use mathlib.Core.Path.{◌≡◌, refl, sym, ap, ◌∙◌}
-use Prim.Native.Nat.{ℕ, zero, suc, ◌+◌, ◌-◌, ◌≤◌}
-use native.Mathlib.Omega.{arith}
-use borrow.Author.Tests.{leb-true}
-use lib.Dec.{leb}
-use lib.IntN.{ℤ}
-use lib.ListN.{length, take, drop, length-drop}
-use lib.Seq.{drop-drop}
+use Rattle.std.proofs.Common.{None, Some, Bool, true, false, List, [], ◌∷◌, ◌≡◌, refl, sym, ap, ◌∙◌, ℕ, zero, suc, ◌+◌, ◌-◌, ◌≤◌, arith, leb-true, leb, ℤ, length, take, drop, length-drop, drop-drop}
 use Rattle.model.specs.Lists.{Name}
 use Rattle.model.specs.Bytes.{Front, then, take_bytes, byte, named, read_name, read_until, read_entry, make_zone, make_window, read_zone, read_window, number, well_formed}
 use Rattle.model.proofs.Facts.{by_test}
@@ -26,9 +16,6 @@ left_on {s} {t} {u} a b =
     let w : b.at ≤ length s - a.at = omega (arith, b.within, ap length a.is, length-drop a.at s) in
     record { at = a.at + b.at; within = omega (arith, a.within, w); is = b.is ∙ ap (drop b.at) a.is ∙ drop-drop b.at a.at s }
 
-no : {A : Type 0} {C : Type 0} (a : A) → ◌≡◌ {A = Option A} None (Some a) → C
-no a h = let z : ◌≡◌ {A = ℕ} 0 1 = cc in absurd (omega arith)
-
 snd_of : {A : Type 0} (a b : A) (s t : List ℕ) → ◌≡◌ {A = Front A} (Some (a, s)) (Some (b, t)) → s ≡ t
 snd_of {A} a b s t h = let q : ◌≡◌ {A = A × List ℕ} (a, s) (b, t) = cc in ap (λ p. p.1) q
 
@@ -42,10 +29,10 @@ take_leaves n s a t h =
     by_test (leb n (length s))
     (λ e. let k : ◌≡◌ {A = Front (List ℕ)} (Some (take n s, drop n s)) (Some (a, t)) = rw e at h in
     record { at = n; within = leb-true n (length s) e; is = sym (snd_of (take n s) a (drop n s) t k) })
-    (λ e. let k : ◌≡◌ {A = Front (List ℕ)} None (Some (a, t)) = rw e at h in no (a, t) k)
+    (λ e. let k : ◌≡◌ {A = Front (List ℕ)} None (Some (a, t)) = rw e at h in cc)
 
 byte_leaves : Leaves byte
-byte_leaves [] a t h = no (a, t) h
+byte_leaves [] a t h = cc
 byte_leaves (x ∷ s) a t h = record { at = 1; within = omega arith; is = sym (snd_of x a s t h) }
 
 -- one reader after another
@@ -54,7 +41,7 @@ pub then_leaves : {A B : Type 0} (first : List ℕ → Front A) (next : A → Li
 then_leaves {A} {B} first next f g s b t h = go (first s) refl h
   where
     go : (x : Front A) → first s ≡ x → then x next ≡ Some (b, t) → Left s t
-    go None e k = no (b, t) k
+    go None e k = cc
     go (Some p) e k = left_on (f s p.0 p.1 e) (g p.0 p.1 b t k)
 
 module _ {A B : Type 0} (tail : ℕ → List ℕ → Front A) (make : ℤ → ℕ → A → B) (leaves : (m : ℕ) → Leaves (tail m)) where
@@ -70,21 +57,21 @@ module _ {A B : Type 0} (tail : ℕ → List ℕ → Front A) (make : ℤ → �
 named_leaves : (w : Bool) (n : Name) → Leaves (named w n)
 unfolding named
 named_leaves true n s a t h = let e = snd_of (Some n) a s t h in record { at = 0; within = omega arith; is = sym e }
-named_leaves false n s a t h = no (a, t) h
+named_leaves false n s a t h = cc
 
 name_leaves : (m : ℕ) → Leaves (read_name m)
 unfolding read_name
 name_leaves zero s a t h = let e = snd_of None a s t h in record { at = 0; within = omega arith; is = sym e }
 name_leaves (suc zero) s a t h =
     then_leaves byte _ byte_leaves (λ n. then_leaves (take_bytes n) _ (take_leaves n) (λ name. named_leaves (well_formed name) name)) s a t h
-name_leaves (suc (suc m)) s a t h = no (a, t) h
+name_leaves (suc (suc m)) s a t h = cc
 
 until_leaves : (m : ℕ) → Leaves (read_until m)
 unfolding read_until
 until_leaves zero s a t h = let e = snd_of None a s t h in record { at = 0; within = omega arith; is = sym e }
 until_leaves (suc zero) s a t h =
     then_leaves (take_bytes 8) _ (take_leaves 8) (λ e s b t h. let q = snd_of (Some (number e)) b s t h in record { at = 0; within = omega arith; is = sym q }) s a t h
-until_leaves (suc (suc m)) s a t h = no (a, t) h
+until_leaves (suc (suc m)) s a t h = cc
 
 pub zone_leaves : Leaves read_zone
 zone_leaves = entry_leaves read_name make_zone name_leaves

@@ -1,5 +1,5 @@
--- What a reader's answer says of a zone, and a list that is filled up.
-use Rattle.std.specs.Prelude.{List, ◌++◌, ℕ, ◌-◌, ℤ, length, take, drop, replicate, Option, option_map}
+-- What a reader's answer says of a zone.
+use Rattle.std.specs.Prelude.{List, ℕ, ℤ, take, drop, Option, option_map}
 use Rattle.model.specs.Lists.{Name, Zone}
 use Rattle.record.specs.declared.NamePlace.{NamePlace}
 
@@ -10,8 +10,3 @@ name_read s n = option_map (λ p. take p.len (drop p.at s)) n
 -- a zone whose name stands in `s`
 abbrev pub zone_named : List ℕ → ℤ → ℕ → Option NamePlace → Zone
 zone_named s o t n = record { offset = o; start = t; name = name_read s n }
-
-module _ {A : Type 0} where
-  -- a list cut or filled up to `n` entries
-  abbrev pub padded : ℕ → A → List A → List A
-  padded n blank xs = take n xs ++ replicate (n - length xs) blank

@@ -24,7 +24,8 @@ pub const NAME: usize = 14;
 // The longest name.
 pub const MOST_NAME: usize = 64;
 
-// An entry of a section, as it is read at a place.
+// An entry of a section, as it is read at a place. The impls and the name are read in place: by calls, a refused SetTimeZone of 8 zones takes
+// 80 instructions more, and may take no more than five times the Rust's.
 pub trait Entry: Copy {
     // What an entry stands for, and how one is read off the front of some bytes.
     ghost meaning: { Type 0 };
@@ -55,6 +56,8 @@ impl Entry for TimeZoneRead {
 
     ghost next_of = { next_zone };
 
+    #[inline(always)]
+    #[tactic(auto, using(crate::proofs::Entries::of_zone, crate::proofs::Sections::zone_reads))]
     fn read_at(s: &[u8], at: usize) -> Option<TimeZoneRead> {
         let head = head_at(s, at)?;
         let (name, next) = match head.mark {
@@ -87,6 +90,8 @@ impl Entry for DSTOffsetRead {
 
     ghost next_of = { next_window };
 
+    #[inline(always)]
+    #[tactic(auto, using(crate::proofs::Entries::of_window, crate::proofs::Sections::window_reads, word::proofs::Answers::u64_present))]
     fn read_at(s: &[u8], at: usize) -> Option<DSTOffsetRead> {
         let head = head_at(s, at)?;
         let (valid_until, next) = match head.mark {
@@ -116,6 +121,7 @@ struct Head {
 }
 
 // The head of the entry at `at`.
+#[tactic(auto, using(crate::proofs::Heads::head_short, std::proofs::lemmas::List::take_rest))]
 fn head_at(s: &[u8], at: usize) -> Option<Head>
     ensures { result ≡ head_at s.now at }
 {
@@ -130,6 +136,8 @@ fn head_at(s: &[u8], at: usize) -> Option<Head>
 }
 
 // The name whose length byte stands at `at`.
+#[inline(always)]
+#[tactic(auto, unfolding(crate::specs::Fronts::name_there))]
 fn name_at(s: &[u8], at: usize) -> Option<NamePlace>
     ensures { result ≡ name_there s.now at }
 {

@@ -33,6 +33,7 @@ fn whole<E: Entry>(s: &[u8]) -> Option<SectionRead>
 }
 
 // A request for SetTimeZone: one section of zones and nothing else.
+#[tactic(auto, unfolding(crate::specs::Fronts::zones_whole))]
 pub fn time_zones(s: &[u8]) -> Option<SectionRead>
     ensures { result ≡ zones_whole s.now }
 {
@@ -40,6 +41,7 @@ pub fn time_zones(s: &[u8]) -> Option<SectionRead>
 }
 
 // A request for SetDSTOffset: one section of windows and nothing else.
+#[tactic(auto, unfolding(crate::specs::Fronts::windows_whole))]
 pub fn dst_offsets(s: &[u8]) -> Option<SectionRead>
     ensures { result ≡ windows_whole s.now }
 {
@@ -47,6 +49,7 @@ pub fn dst_offsets(s: &[u8]) -> Option<SectionRead>
 }
 
 // A stored record: a section of zones, one of windows, and nothing else.
+#[tactic(auto, using(crate::proofs::Records::of_record))]
 pub fn record(s: &[u8]) -> Option<RecordRead>
     ensures { result ≡ record_at s.now }
 {

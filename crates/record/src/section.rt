@@ -6,6 +6,7 @@ use crate::SectionRead;
 use crate::entry::Entry;
 
 // The place after the n entries from `at` on.
+#[tactic(auto, using(crate::proofs::Sections::reading, crate::proofs::Indexed::placing), unfolding(crate::specs::Fronts::entries_at))]
 pub fn place_after<E: Entry>(s: &[u8], at: usize, n: usize) -> Option<usize>
     ensures found { result ≡ place_after E.found_at E.next_of s.now at n }
     ensures read { at ≤ length s.now → result ≡ place_left E.read_one s.now at n }
@@ -18,6 +19,7 @@ pub fn place_after<E: Entry>(s: &[u8], at: usize, n: usize) -> Option<usize>
 }
 
 // The section at `at`.
+#[tactic(auto, using(crate::proofs::Sections::of_section))]
 pub fn section_at<E: Entry>(s: &[u8], at: usize) -> Option<SectionRead>
     ensures { result ≡ section_at E.read_one s.now at }
 {
@@ -27,6 +29,7 @@ pub fn section_at<E: Entry>(s: &[u8], at: usize) -> Option<SectionRead>
 }
 
 // Entry i of the section at the front.
+#[tactic(auto, using(crate::proofs::Indexed::count_is), unfolding(crate::specs::Fronts::section_entry))]
 pub fn nth<E: Entry>(s: &[u8], i: usize) -> Option<E>
     ensures { result ≡ section_entry E.found_at E.next_of s.now i }
 {

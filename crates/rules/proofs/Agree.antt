@@ -1,7 +1,5 @@
 -- The answers are the model's verdicts on the calls.
-use Rattle.std.specs.Prelude.{Option, None, Some, Result, Ok, Err}
-use mathlib.Core.List.{List}
-use mathlib.Core.Path.{◌≡◌, refl, sym, ap, ◌∙◌}
+use Rattle.std.proofs.Common.{Option, None, Some, Result, Ok, Err, List, ◌≡◌, refl, sym, ap, ◌∙◌}
 use Rattle.model.specs.declared.Refusal.{Refusal}
 use Rattle.model.specs.Lists.{Zone, Window}
 use Rattle.model.specs.Rules as M

@@ -127,3 +127,6 @@ module _ {E : Type 0} (found_at : List ℕ → ℕ → Option E) (next_of : E �
 
           pub refused : {n : ℕ} → true ≡ is_err v → Some n ≡ place_after found_at next_of s (next_of entry) (count - index - 1) → Some (ended n) ≡ tested
           refused k p = by_last k p
+
+-- the goals of `section`
+pub ruleset walking = (no_count, begins, stops, goes_on_lem, unread, refused, ends)

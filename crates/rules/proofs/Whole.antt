@@ -164,3 +164,8 @@ module _ (zone_limit window_limit : ℕ) (s : List ℕ) where
       go : (o : Option Lists) → Some v ≡ option_map (λ l. verdict_of (and_then (test_zones rules l.zones) (test_windows rules l.windows))) o → result_or v (Err BadRecord) ≡ verdict_of (record_verdict rules o)
       go None e = cc
       go (Some l) e = as_bad (and_then (test_zones rules l.zones) (test_windows rules l.windows)) cc
+
+-- the goals of `lists` and of `stored`
+pub ruleset of_lists_tested = (no_zones, no_windows, both_tested)
+
+pub ruleset of_stored = (not_read, read)

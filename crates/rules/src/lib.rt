@@ -30,6 +30,7 @@ pub fn set_dst_offset(s: &[u8], limit: usize) -> Result<(), Refusal>
 }
 
 // What is said of a record's lists, where it is readable: a section of zones, one of windows, and nothing else.
+#[tactic(auto, using(crate::proofs::Whole::of_lists_tested))]
 fn lists(s: &[u8], zone_limit: usize, window_limit: usize) -> Option<Result<(), Refusal>>
     ensures { result ≡ lists_tested zone_limit window_limit s.now }
 {
@@ -39,6 +40,7 @@ fn lists(s: &[u8], zone_limit: usize, window_limit: usize) -> Option<Result<(), 
 }
 
 // Whether a stored record is taken; whatever the cause, one that is not is a bad record.
+#[tactic(auto, using(crate::proofs::Whole::of_stored))]
 pub fn stored(s: &[u8], zone_limit: usize, window_limit: usize) -> Result<(), Refusal>
     ensures { result ≡ record_tested zone_limit window_limit s.now }
 {

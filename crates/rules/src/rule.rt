@@ -43,6 +43,7 @@ fn verdict_on<E: Ruled>(
 
 // The section at `at`: each entry is read once, and the first that fails decides. Those after it are read too, since a section is unreadable
 // where one of its entries is.
+#[tactic(auto, using(crate::proofs::Walk::walking))]
 pub(crate) fn section<E: Ruled>(s: &[u8], at: usize, limit: usize) -> Option<Tested>
     ensures { result ≡ section_tested E.found_at E.next_of E.keeps limit s.now at }
 {

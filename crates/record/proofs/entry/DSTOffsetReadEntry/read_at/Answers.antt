@@ -1,27 +1,9 @@
 -- `record::entry::DSTOffsetReadEntry::read_at` meets its contract.
-use Rattle.std.proofs.Common.{◌≡◌, ◌∙◌, ◌+◌, w32, to_z, of_z, rules, arith}
-use Rattle.word.proofs.Answers.{u64_present}
-use Rattle.record.proofs.Entries.{no_window, within, window_plain, window_unknown, window_short_end, window_with_end}
+use Rattle.std.proofs.Common.{◌≡◌, w32, to_z, of_z, rules}
+use Rattle.record.proofs.Entries.{window_plain, window_unknown, window_with_end}
 use Rattle.record.proofs.Sections.{window_reads}
 use Rattle.record.proofs.entry.DSTOffsetReadEntry.read_at.Goals as goal
 use Rattle.record.proofs.entry.DSTOffsetReadEntry.read_at.Goals.{in-0, in-1+in_ok-u64_at-in-1}
-
-pub returns-in_err-head : goal.returns-in_err-head
-returns-in_err-head c = let a = c.args in window_reads a.s.now a.at (c.from_residual.ensures ∙ no_window a.s.now a.at c.in_err-head.ensures)
-
-pub overflow_add-valid_until : goal.overflow_add-valid_until
-overflow_add-valid_until c = omega (arith, within c.args.s.now c.args.at _ c.in_ok-head.ensures)
-
-pub overflow_add-at : goal.overflow_add-at
-overflow_add-at c = omega (arith, within c.args.s.now c.args.at _ c.in_ok-head.ensures)
-
-pub returns-in_err-u64_at-in-1 : goal.returns-in_err-u64_at-in-1
-returns-in_err-u64_at-in-1 c =
-    let a = c.args in
-    window_reads a.s.now a.at (c.from_residual-in_err-u64_at-in-1.ensures ∙ window_short_end a.s.now a.at _ c.in_ok-head.ensures c.in-1.is c.in_err-u64_at-in-1.ensures)
-
-pub overflow_add-valid_until-in-1 : goal.overflow_add-valid_until-in-1
-overflow_add-valid_until-in-1 c = omega (arith, (u64_present c.args.s.now (c.args.at + 13) _ c.in_ok-u64_at-in-1.ensures).there)
 
 pub returns-in_default : goal.returns-in_default
 returns-in_default c = let a = c.args in window_reads a.s.now a.at (window_unknown a.s.now a.at _ c.in_ok-head.ensures (search rules) (search rules))
