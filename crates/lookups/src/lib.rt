@@ -62,7 +62,7 @@ impl ZoneShown {
     {
         let place = self.name?;
         let rest = table.get(place.at..).unwrap_or_default();
-        Some(rest.get(..place.len).unwrap_or(rest))
+        Some(&rest[..place.len.min(rest.len())])
     }
 
     // The name to the front of `out` where it has room, and how long it is; else nothing is written.

@@ -41,7 +41,8 @@ fn after_first(first: u8, s: &[u8]) -> Option<&[u8]>
     }
 }
 
-// Whether s is well-formed UTF-8, character by character.
+// Whether s is well-formed UTF-8, character by character. Few names come here, so no reader of names carries it in its own code.
+#[inline(never)]
 #[tactic(auto, using(crate::proofs::Rows::none_left))]
 fn characters(s: &[u8]) -> bool
     ensures { result ≡ well_formed s.now }
