@@ -4,7 +4,7 @@ ghost use Rattle.std.specs.Prelude.{◌<◌, ◌≤◌, length, IfSome};
 use crate::reader::Reader;
 use model::{TimeGranularity, TimeSource};
 use rtc::{Rtc, SourceChange, TrustedTimeSource, UtcTime};
-use std::io::Result;
+use std::io::{Result, Write};
 
 // A setting, with the numbers of its granularity and its time source. Where it persists, its moment is stored if it is a day or more from
 // the persisted one.
@@ -31,16 +31,16 @@ impl Setting {
     }
 
     // Sets the clock; a number that names no granularity or no time source changes nothing.
-    fn run(self, rt: &impl Print, rtc: &mut Rtc) -> Result<()> {
+    fn run(self, out: &mut impl Write, rtc: &mut Rtc) -> Result<()> {
         let Ok(granularity) = TimeGranularity::try_from(self.granularity) else {
-            return print!(rt; "no granularity");
+            return write!(out, "no granularity");
         };
         let Ok(source) = TimeSource::try_from(self.source) else {
-            return print!(rt; "no time source");
+            return write!(out, "no time source");
         };
         if !self.persists {
             let changed = rtc_lent::set_utc_time(rtc, self.utc_us, granularity, source, self.tick);
-            return told_setting(rt, changed);
+            return told_setting(out, changed);
         }
         let answer = rtc_lent::set_utc_time_persist(
             rtc,
@@ -49,10 +49,10 @@ impl Setting {
             source,
             self.tick,
         );
-        told_setting(rt, answer.changed)?;
+        told_setting(out, answer.changed)?;
         match answer.stored {
-            None => print!(rt; ", not stored"),
-            Some(utc_us) => print!(rt; ", stored {utc_us}"),
+            None => write!(out, ", not stored"),
+            Some(utc_us) => write!(out, ", stored {utc_us}"),
         }
     }
 }
@@ -124,98 +124,98 @@ impl Step {
         }
     }
 
-    fn run(self, rt: &impl Print, rtc: &mut Rtc) -> Result<()> {
+    fn run(self, out: &mut impl Write, rtc: &mut Rtc) -> Result<()> {
         match self {
-            Step::Set(setting) => setting.run(rt, rtc),
-            Step::Trust(source) => trust(rt, rtc, source),
-            Step::Load(found) => load(rt, rtc, found),
+            Step::Set(setting) => setting.run(out, rtc),
+            Step::Trust(source) => trust(out, rtc, source),
+            Step::Load(found) => load(out, rtc, found),
             Step::Reset { build } => {
                 rtc_lent::reset_persist(rtc, build);
-                print!(rt; "reset")
+                write!(out, "reset")
             }
-            Step::Read { tick } => reading(rt, *rtc, tick),
+            Step::Read { tick } => reading(out, *rtc, tick),
         }
     }
 }
 
 // Writes the fabric index, the node and the endpoint of a source.
-fn told_source(rt: &impl Print, source: TrustedTimeSource) -> Result<()> {
+fn told_source(out: &mut impl Write, source: TrustedTimeSource) -> Result<()> {
     let TrustedTimeSource {
         fab_idx,
         node_id,
         endpoint,
     } = source;
-    print!(rt; " {fab_idx} {node_id} {endpoint}")
+    write!(out, " {fab_idx} {node_id} {endpoint}")
 }
 
 // Writes whether a setting changed something.
-fn told_setting(rt: &impl Print, changed: bool) -> Result<()> {
+fn told_setting(out: &mut impl Write, changed: bool) -> Result<()> {
     if changed {
-        print!(rt; "changed")
+        write!(out, "changed")
     } else {
-        print!(rt; "same")
+        write!(out, "same")
     }
 }
 
 // A trusted time source is installed, or cleared.
-fn trust(rt: &impl Print, rtc: &mut Rtc, source: Option<TrustedTimeSource>) -> Result<()> {
+fn trust(out: &mut impl Write, rtc: &mut Rtc, source: Option<TrustedTimeSource>) -> Result<()> {
     match rtc_lent::set_trusted_time_source(rtc, source) {
-        SourceChange::Same => print!(rt; "same source"),
+        SourceChange::Same => write!(out, "same source"),
         SourceChange::Installed(new) => {
-            print!(rt; "stored source")?;
-            told_source(rt, new)
+            write!(out, "stored source")?;
+            told_source(out, new)
         }
-        SourceChange::Cleared => print!(rt; "removed source"),
+        SourceChange::Cleared => write!(out, "removed source"),
     }
 }
 
 // A load of what is found.
-fn load(rt: &impl Print, rtc: &mut Rtc, found: Found) -> Result<()> {
+fn load(out: &mut impl Write, rtc: &mut Rtc, found: Found) -> Result<()> {
     match rtc_lent::load_persist(rtc, found.build, found.utc_us, found.source) {
-        Ok(()) => print!(rt; "loaded"),
-        Err(cause) => print!(rt; "refused {}", u8::from(cause)),
+        Ok(()) => write!(out, "loaded"),
+        Err(cause) => write!(out, "refused {}", u8::from(cause)),
     }
 }
 
 // Writes a reading of the UTC time.
-fn told_utc(rt: &impl Print, utc: UtcTime) -> Result<()> {
+fn told_utc(out: &mut impl Write, utc: UtcTime) -> Result<()> {
     match utc {
-        UtcTime::Reliable(utc_us) => print!(rt; "reliable {utc_us}"),
-        UtcTime::LastKnown(utc_us) => print!(rt; "last known {utc_us}"),
+        UtcTime::Reliable(utc_us) => write!(out, "reliable {utc_us}"),
+        UtcTime::LastKnown(utc_us) => write!(out, "last known {utc_us}"),
     }
 }
 
 // Writes the trusted time source, or that there is none.
-fn told_trusted(rt: &impl Print, trusted: Option<TrustedTimeSource>) -> Result<()> {
+fn told_trusted(out: &mut impl Write, trusted: Option<TrustedTimeSource>) -> Result<()> {
     match trusted {
-        None => print!(rt; ", none trusted"),
+        None => write!(out, ", none trusted"),
         Some(source) => {
-            print!(rt; ", trusted")?;
-            told_source(rt, source)
+            write!(out, ", trusted")?;
+            told_source(out, source)
         }
     }
 }
 
 // Writes everything that a clock says of itself at a tick.
-fn reading(rt: &impl Print, rtc: Rtc, tick: u64) -> Result<()> {
-    told_utc(rt, rtc.utc_time(tick))?;
+fn reading(out: &mut impl Write, rtc: Rtc, tick: u64) -> Result<()> {
+    told_utc(out, rtc.utc_time(tick))?;
     let granularity = u8::from(rtc.utc_time_granularity());
     let source = u8::from(rtc.utc_time_source());
-    print!(rt; ", granularity {granularity}, time source {source}")?;
-    told_trusted(rt, rtc.trusted_time_source)
+    write!(out, ", granularity {granularity}, time source {source}")?;
+    told_trusted(out, rtc.trusted_time_source)
 }
 
 // Runs the steps of a script on one clock, and writes what each answers; it ends where no step can be read.
-pub(crate) fn script(rt: &impl Print, s: &[u8]) -> Result<()> {
+pub(crate) fn script(out: &mut impl Write, s: &[u8]) -> Result<()> {
     let mut rtc = Rtc::new(0);
     let mut script = Reader::new(s);
     while !script.is_empty() {
         let Some(step) = Step::read(&mut script) else {
-            return print!(rt; "no step");
+            return write!(out, "no step");
         };
-        step.run(rt, &mut rtc)?;
+        step.run(out, &mut rtc)?;
         if !script.is_empty() {
-            print!(rt; "; ")?;
+            write!(out, "; ")?;
         }
     }
     Ok(())

@@ -8,7 +8,7 @@ use controller::clock::{timesync_new, timesync_set_trusted_time_source, timesync
 use controller::lists::{timesync_load_lists, timesync_set_dst_offset, timesync_set_time_zone};
 use image::place::SIZE;
 use record::MOST_BYTES;
-use std::io::Result;
+use std::io::{Result, Write};
 use word::or_zero::put_u8;
 
 // The place in an image of its mark of a list store.
@@ -79,7 +79,7 @@ impl<'a> Step<'a> {
     }
 
     // Calls the entry point, and writes what it answers.
-    fn run(self, rt: &impl Print, image: &mut [u8]) -> Result<()> {
+    fn run(self, out: &mut impl Write, image: &mut [u8]) -> Result<()> {
         let mut record = [0u8; MOST_BYTES];
         let mut used: u64 = 0;
         let returned = match self {
@@ -98,43 +98,43 @@ impl<'a> Step<'a> {
                 put_u8(image, LIST_STORE, 0);
                 return Ok(());
             }
-            Step::LocalTime { tick } => return local(rt, image, tick),
-            Step::Counts => return listing::counts(rt, image),
-            Step::Zone { index } => return listing::zone(rt, image, index),
-            Step::Window { index } => return listing::window(rt, image, index),
+            Step::LocalTime { tick } => return local(out, image, tick),
+            Step::Counts => return listing::counts(out, image),
+            Step::Zone { index } => return listing::zone(out, image, index),
+            Step::Window { index } => return listing::window(out, image, index),
         };
-        told(rt, returned)
+        told(out, returned)
     }
 }
 
 // Writes the number of what a call returned: 0 where the call was taken.
-pub(crate) fn told(rt: &impl Print, returned: u64) -> Result<()> {
-    print!(rt; " {}", returned % NUMBERS)
+pub(crate) fn told(out: &mut impl Write, returned: u64) -> Result<()> {
+    write!(out, " {}", returned % NUMBERS)
 }
 
 // LocalTime at a tick.
-fn local(rt: &impl Print, image: &[u8], tick: u64) -> Result<()> {
+fn local(out: &mut impl Write, image: &[u8], tick: u64) -> Result<()> {
     let mut there: u64 = 0;
     let mut utc: u64 = 0;
     let returned = timesync_local_time(image, tick, &mut there, &mut utc);
     if returned != 0 {
-        return told(rt, returned);
+        return told(out, returned);
     }
     if there == 0 {
-        print!(rt; " null")
+        write!(out, " null")
     } else {
-        print!(rt; " {utc}")
+        write!(out, " {utc}")
     }
 }
 
 // Runs the steps of a script on a new device, and writes what each answers; it ends where no step can be read. The device's build moment
 // and the client's period are 0.
-pub(crate) fn script(rt: &impl Print, s: &[u8]) -> Result<()> {
+pub(crate) fn script(out: &mut impl Write, s: &[u8]) -> Result<()> {
     let mut image = [0u8; SIZE];
     timesync_new(&mut image, 1, 2, 2, 0, 0);
     let mut script = Reader::new(s);
     while let Some(step) = Step::read(&mut script) {
-        step.run(rt, &mut image)?;
+        step.run(out, &mut image)?;
     }
     Ok(())
 }

@@ -3,7 +3,7 @@ use crate::text;
 use lookups::MOST_MOMENTS;
 use record::MOST_BYTES;
 use record::entry::MOST_NAME;
-use std::io::Result;
+use std::io::{Result, Write};
 use word::WORD;
 
 // Room for every moment of a walk.
@@ -30,11 +30,11 @@ impl Asked {
 }
 
 // Writes the number of steps and the moments of a walk: the starting one, and one for each step.
-fn walked(rt: &impl Print, moments: &[u8], steps: u64) -> Result<()> {
-    print!(rt; "{steps} steps:")?;
+fn walked(out: &mut impl Write, moments: &[u8], steps: u64) -> Result<()> {
+    write!(out, "{steps} steps:")?;
     let (moments, _) = moments.as_chunks::<WORD>();
     for moment in moments.iter().take((steps as usize).saturating_add(1)) {
-        print!(rt; " {}", u64::from_le_bytes(*moment))?;
+        write!(out, " {}", u64::from_le_bytes(*moment))?;
     }
     Ok(())
 }
@@ -78,14 +78,14 @@ fn run(asked: Asked, history: &[u8], moments: &mut [u8], steps: &mut u64) -> u64
 }
 
 // Runs a history and writes the walk: zone limit, window limit, starting moment, and the calls in hexadecimal digits.
-pub(crate) fn replayed(rt: &impl Print, row: &[u8], history: &[u8]) -> Result<()> {
+pub(crate) fn replayed(out: &mut impl Write, row: &[u8], history: &[u8]) -> Result<()> {
     let Some(asked) = Asked::read(row) else {
-        return print!(rt; "unreadable");
+        return write!(out, "unreadable");
     };
     let mut moments = [0u8; MOMENTS_MAX];
     let mut steps: u64 = 0;
     match run(asked, history, &mut moments, &mut steps) {
-        0 => walked(rt, &moments, steps),
-        refusal => print!(rt; "refused {refusal}"),
+        0 => walked(out, &moments, steps),
+        refusal => write!(out, "refused {refusal}"),
     }
 }
