@@ -65,7 +65,8 @@ pub fn utf8(s: &[u8]) -> bool
     s.is_ascii() || characters(s)
 }
 
-// Whether n bytes stand at `at` and are well-formed UTF-8.
+// Whether n bytes stand at `at` and are well-formed UTF-8. Within a section's loop: as a call it made a refused SetTimeZone too slow.
+#[inline(always)]
 #[tactic(auto, unfolding(crate::specs::Place::text_at))]
 pub fn utf8_at(s: &[u8], at: usize, n: usize) -> bool
     ensures { result ≡ text_at s.now at n }
