@@ -67,7 +67,7 @@ fn section<E: Ruled>(s: &[u8], at: usize, limit: usize) -> Option<Tested>
 }
 
 // Takes the section at the reader's position: what is said of its entries. The reader goes on after it, and stays where nothing is readable.
-// In place: by a call, a refused request takes 20 instructions more.
+// In place: by a call, a refused request takes some 20 instructions more.
 #[inline(always)]
 pub(crate) fn take<E: Ruled>(
     reader: &mut SectionReader<'_>,
