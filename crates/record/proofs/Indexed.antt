@@ -1,7 +1,7 @@
--- Entries found by going from place to place, and entry `i` of a section.
-use Rattle.std.proofs.Common.{List, ◌∷◌, ◌≡◌, refl, ap, ◌∙◌, ℕ, suc, ◌≤◌, ◌<◌, get_or, Option, None, Some, slice_get, unwrap_or, option_map, option_and_then, lt-ltb, le-ltb}
+-- Entries found by going from place to place.
+use Rattle.std.proofs.Common.{List, ◌∷◌, ◌≡◌, refl, ap, ◌∙◌, ℕ, suc, get_or, Option, None, Some, slice_get, unwrap_or, option_map, option_and_then}
 use Rattle.std.proofs.lemmas.Option.{unwrap_or-slice_get}
-use Rattle.record.specs.Fronts.{entries_at, place_after, section_entry}
+use Rattle.record.specs.Fronts.{entries_at, place_after}
 
 -- what a first element says of the count at the front
 pub count_is : (s : List ℕ) {r : Option ℕ} → r ≡ slice_get s 0 → unwrap_or r 0 ≡ get_or s 0 0
@@ -27,15 +27,6 @@ module _ {E : Type 0} (found_at : List ℕ → ℕ → Option E) (next_of : E �
   pub place_stops : (at i : ℕ) → found_at s at ≡ None → place_after found_at next_of s at (suc i) ≡ None
   unfolding entries_at
   place_stops at i h = rw h
-
-  module _ (i : ℕ) where
-    pub index_past : get_or s 0 0 ≤ i → section_entry found_at next_of s i ≡ None
-    unfolding section_entry
-    index_past h = rw (le-ltb i (get_or s 0 0) h)
-
-    pub index_within : i < get_or s 0 0 → section_entry found_at next_of s i ≡ option_and_then (found_at s) (place_after found_at next_of s 1 i)
-    unfolding section_entry
-    index_within h = rw (lt-ltb i (get_or s 0 0) h)
 
 -- the goals of `place_after`
 pub ruleset placing = (place_more, place_stops)

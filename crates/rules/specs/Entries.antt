@@ -18,6 +18,19 @@ module _ {E : Type 0} (keeps : ℕ → Option E → E → Bool) where
   abbrev pub entry_tested : ℕ → ℕ → Option E → E → Result (Unit {0}) Refusal
   entry_tested limit index before e = verdict_of (demand (not (eqb index limit)) ResourceExhausted (entry_rule index before e))
 
+-- what is said of a section that was read, and where a reader at `at` goes on
+abbrev pub verdict_in : Option Tested → Option (Result (Unit {0}) Refusal)
+verdict_in r = option_map (λ t. t.verdict) r
+
+abbrev pub moved_to : ℕ → Option Tested → ℕ
+moved_to at None = at
+moved_to at (Some t) = t.next
+
+-- the same of a section after which nothing is left over of so many bytes
+abbrev pub whole_tested : ℕ → Option Tested → Result (Unit {0}) Refusal
+whole_tested len None = Err Unreadable
+whole_tested len (Some t) = cond (eqb t.next len) t.verdict (Err Unreadable)
+
 module _ {E : Type 0} (found_at : List ℕ → ℕ → Option E) (next_of : E → ℕ) (keeps : ℕ → Option E → E → Bool) (limit : ℕ) where
   abbrev pub entries_tested : Option (List E × ℕ) → Option Tested
   entries_tested found = option_map (λ p. record { verdict = verdict_of (test_from limit (entry_rule keeps) 0 None p.0); next = p.1 }) found
@@ -25,10 +38,6 @@ module _ {E : Type 0} (found_at : List ℕ → ℕ → Option E) (next_of : E �
   -- of the section at `at`, where it is readable, and the place after it
   unfoldable pub section_tested : List ℕ → ℕ → Option Tested
   section_tested s at = cond (ltb at (length s)) (entries_tested (entries_at found_at next_of s (at + 1) (get_or s at 0))) None
-
-  abbrev pub whole_tested : ℕ → Option Tested → Result (Unit {0}) Refusal
-  whole_tested len None = Err Unreadable
-  whole_tested len (Some t) = cond (eqb t.next len) t.verdict (Err Unreadable)
 
   -- of a request: one section and nothing else
   unfoldable pub request_tested : List ℕ → Result (Unit {0}) Refusal

@@ -10,8 +10,9 @@ ghost use Rattle.rules.specs.Verdicts.{zones_tested, windows_tested, record_test
 ghost use Rattle.rules.specs.Entries.{lists_tested};
 
 use model::Refusal;
+use record::section::SectionReader;
 use record::{DSTOffsetRead, TimeZoneRead};
-use rule::{request, section};
+use rule::{request, take};
 
 // What SetTimeZone says of a request.
 #[tactic(auto, using(crate::proofs::Whole::zones_asked))]
@@ -30,13 +31,14 @@ pub fn set_dst_offset(s: &[u8], limit: usize) -> Result<(), Refusal>
 }
 
 // What is said of a record's lists, where it is readable: a section of zones, one of windows, and nothing else.
-#[tactic(auto, using(crate::proofs::Whole::of_lists_tested))]
+#[tactic(auto, using(crate::proofs::Whole::of_record))]
 fn lists(s: &[u8], zone_limit: usize, window_limit: usize) -> Option<Result<(), Refusal>>
     ensures { result ≡ lists_tested zone_limit window_limit s.now }
 {
-    let zones = section::<TimeZoneRead>(s, 0, zone_limit)?;
-    let windows = section::<DSTOffsetRead>(s, zones.next, window_limit)?;
-    (windows.next == s.len()).then_some(zones.verdict.and(windows.verdict))
+    let mut reader = SectionReader::new(s);
+    let zones = take::<TimeZoneRead>(&mut reader, zone_limit)?;
+    let windows = take::<DSTOffsetRead>(&mut reader, window_limit)?;
+    reader.ended().then_some(zones.and(windows))
 }
 
 // Whether a stored record is taken; whatever the cause, one that is not is a bad record.

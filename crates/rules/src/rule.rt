@@ -1,10 +1,10 @@
 // A section tested as it is read, by the rule of its kind of entry.
 ghost use Rattle.std.specs.Prelude.{◌≡◌, Bool, ℕ, Option};
-ghost use Rattle.rules.specs.Entries.{entry_tested, section_tested, request_tested};
+ghost use Rattle.rules.specs.Entries.{entry_tested, section_tested, verdict_in, moved_to, request_tested};
 
 use model::Refusal;
 use record::entry::Entry;
-use record::section::place_after;
+use record::section::{SectionReader, place_after};
 
 // An entry that a rule tests, by its index and the entry before it.
 pub(crate) trait Ruled: Entry {
@@ -17,9 +17,9 @@ pub(crate) trait Ruled: Entry {
 
 // A section: what is said of its entries, and the place after it.
 #[derive(Clone, Copy)]
-pub(crate) struct Tested {
-    pub(crate) verdict: Result<(), Refusal>,
-    pub(crate) next: usize,
+struct Tested {
+    verdict: Result<(), Refusal>,
+    next: usize,
 }
 
 // What is said of one entry: the limit is tested before the rule.
@@ -44,7 +44,7 @@ fn verdict_on<E: Ruled>(
 // The section at `at`: each entry is read once, and the first that fails decides. Those after it are read too, since a section is unreadable
 // where one of its entries is.
 #[tactic(auto, using(crate::proofs::Walk::walking))]
-pub(crate) fn section<E: Ruled>(s: &[u8], at: usize, limit: usize) -> Option<Tested>
+fn section<E: Ruled>(s: &[u8], at: usize, limit: usize) -> Option<Tested>
     ensures { result ≡ section_tested E.found_at E.next_of E.keeps limit s.now at }
 {
     let count = *s.get(at)? as usize;
@@ -66,13 +66,30 @@ pub(crate) fn section<E: Ruled>(s: &[u8], at: usize, limit: usize) -> Option<Tes
     })
 }
 
+// Takes the section at the reader's position: what is said of its entries. The reader goes on after it, and stays where nothing is readable.
+// In place: by a call, a refused request takes some 20 instructions more.
+#[inline(always)]
+pub(crate) fn take<E: Ruled>(
+    reader: &mut SectionReader<'_>,
+    limit: usize,
+) -> Option<Result<(), Refusal>>
+    ensures found { result ≡ verdict_in (section_tested E.found_at E.next_of E.keeps limit reader.old.src.now reader.old.at) }
+    ensures same { reader.new.src ≡ reader.old.src }
+    ensures moved { reader.new.at ≡ moved_to reader.old.at (section_tested E.found_at E.next_of E.keeps limit reader.old.src.now reader.old.at) }
+{
+    let section = section::<E>(reader.src, reader.at, limit)?;
+    reader.at = section.next;
+    Some(section.verdict)
+}
+
 // A request: one section and nothing else.
-#[tactic(auto, unfolding(crate::specs::Entries::request_tested))]
+#[tactic(auto, using(crate::proofs::Whole::of_request))]
 pub(crate) fn request<E: Ruled>(s: &[u8], limit: usize) -> Result<(), Refusal>
     ensures { result ≡ request_tested E.found_at E.next_of E.keeps limit s.now }
 {
-    match section::<E>(s, 0, limit) {
-        Some(section) if section.next == s.len() => section.verdict,
+    let mut reader = SectionReader::new(s);
+    match take::<E>(&mut reader, limit) {
+        Some(verdict) if reader.ended() => verdict,
         _ => Err(Refusal::Unreadable),
     }
 }
