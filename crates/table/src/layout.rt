@@ -7,15 +7,12 @@ use crate::Limits;
 // An entry stands in its place as in a record.
 pub(crate) use record::entry::ENDED;
 pub use record::entry::{END, MARK, MOST_NAME, NAME, NAME_LENGTH, START};
+// There are places for as many entries as the largest record has.
+pub use record::{MOST_WINDOWS, MOST_ZONES};
 use word::or_zero::u8_at;
 
 // How many bytes a table has.
 pub const SIZE: usize = 1040;
-
-// The largest limits: how many places there are.
-pub const MOST_ZONES: usize = 8;
-
-pub const MOST_WINDOWS: usize = 16;
 
 // Limits, counts and the generation.
 pub(crate) const ZONE_LIMIT: usize = 0;

@@ -58,6 +58,7 @@ fn characters(s: &[u8]) -> bool
 }
 
 // Whether s is well-formed UTF-8; most names are plain.
+#[inline(always)]
 #[tactic(auto, using(crate::proofs::Rows::ascii_text))]
 pub fn utf8(s: &[u8]) -> bool
     ensures { result ≡ well_formed s.now }
