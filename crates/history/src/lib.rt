@@ -77,7 +77,7 @@ impl<'a> Iterator for Calls<'a> {
     }
 }
 
-// Whether s is calls one after the other, with nothing left over.
+// Whether s is calls one after the other, with nothing left over. Not by a `for` over `&mut calls`: the proof then lost what is left after it.
 #[tactic(auto, using(crate::proofs::Reading::history_on, crate::proofs::Reading::history_stops))]
 pub fn is_history(s: &[u8]) -> bool
     ensures { result ≡ is_some (read_calls s.now) }
