@@ -35,7 +35,8 @@ fn granularity_in(image: &[u8]) -> TimeGranularity
     TimeGranularity::try_from(u8_at(image, GRANULARITY)).unwrap_or(TimeGranularity::NoTime)
 }
 
-// The time source; a code out of range stands for None.
+// The time source; a code out of range stands for None. Not one generic function with the one above: it would need a trait with laws for
+// two callers, which is no plainer.
 fn source_in(image: &[u8]) -> TimeSource
     ensures { result ≡ (clock_in image.now).source }
 {

@@ -14,7 +14,7 @@ pub(crate) const MAGIC_PLACE: usize = 0;
 pub(crate) const MAGIC: u32 = 0x3153_4d54;
 
 // The mark of a list store.
-pub(crate) const STORE: usize = 4;
+pub const STORE: usize = 4;
 
 // The clock, and what stands in it.
 pub(crate) const CLOCK: usize = 8;

@@ -1,4 +1,5 @@
-// Entries of the lists, and what is active of them at a moment.
+// Entries of the lists, and what is active of them at a moment. A call with several outputs matches the table itself: one function over
+// these three would take as many outputs as all of them have, and be no shorter.
 ghost use Rattle.std.specs.Prelude.{◌≡◌, length};
 ghost use Rattle.model.specs.Answers.{number_of};
 ghost use Rattle.model.specs.Output.{leaves, leaves_copy, mark_of, or_zero, or_zeroℤ};

@@ -70,7 +70,7 @@ pub fn zones(table: &[u8]) -> &[[u8; ZONE_SIZE]]
     &places.as_chunks().0[..zone_count(table)]
 }
 
-// The places of the windows in use, in order.
+// The places of the windows in use, in order. Beside `zones`: one function over both would take the bytes and the count, and be no shorter.
 #[tactic(auto, using(crate::proofs::Places::windows_used, crate::proofs::Places::no_windows))]
 pub fn windows(table: &[u8]) -> &[[u8; WINDOW_SIZE]]
     ensures { result.now ≡ window_places table.now }

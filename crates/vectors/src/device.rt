@@ -6,13 +6,10 @@ use crate::reader::Reader;
 use controller::attributes::timesync_local_time;
 use controller::clock::{timesync_new, timesync_set_trusted_time_source, timesync_set_utc_time};
 use controller::lists::{timesync_load_lists, timesync_set_dst_offset, timesync_set_time_zone};
-use image::place::SIZE;
+use image::place::{SIZE, STORE};
 use record::MOST_BYTES;
 use std::io::{Result, Write};
 use word::or_zero::put_u8;
-
-// The place in an image of its mark of a list store.
-const LIST_STORE: usize = 4;
 
 // How many numbers there are of what a call returns, in its lowest byte: effects stand above.
 const NUMBERS: u64 = 256;
@@ -95,7 +92,7 @@ impl<'a> Step<'a> {
             Step::LoadLists(stored) => timesync_load_lists(image, 1, stored),
             Step::Trust { fab_idx } => timesync_set_trusted_time_source(image, fab_idx, 1, 1, 2),
             Step::WithoutLists => {
-                put_u8(image, LIST_STORE, 0);
+                put_u8(image, STORE, 0);
                 return Ok(());
             }
             Step::LocalTime { tick } => return local(out, image, tick),
