@@ -10,7 +10,8 @@ use crate::codes::{DST_OFFSET_SET, LISTS_RESET, TIME_ZONE_SET};
 use image::place::{SIZE, TABLE, has_lists, is_image};
 use model::{Refusal, TAKEN};
 
-// Whether a command on the lists of these bytes is taken up, before its request is read.
+// Whether a command on the lists of these bytes is taken up, before its request is read. Crate `readings` lends the table where it asks the
+// same; here it is changed, and without lists the refusal is another.
 fn check_lists(image: &[u8]) -> Result<(), Refusal>
     ensures { result ≡ check_lists image.now }
 {
@@ -55,7 +56,7 @@ pub fn set_time_zone(image: &mut [u8], request: &[u8], out: &mut [u8], used: &mu
     }
 }
 
-// SetDSTOffset; the same.
+// SetDSTOffset; the same. What is left of both is their call, their effects and what a refusal asks for.
 pub fn set_dst_offset(image: &mut [u8], request: &[u8], out: &mut [u8], used: &mut u64) -> u64
     ensures { let set = set_dst_offset image.old request.now out.old used.old in
         (result ≡ set.returned) × (image.new ≡ set.image) × (out.new ≡ set.out) × (used.new ≡ set.used) }

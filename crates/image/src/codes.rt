@@ -1,5 +1,5 @@
 // The codes of effects in what calls on an image return, a byte each: an attribute to report, an event to emit, what to wake, and what to
-// store or to remove. They stay numbers, since C reads them out of what a call returns.
+// store or to remove. They stay numbers: an enum of them would be made a number wherever it is used, and only C would read it.
 
 pub const REPORT_UTC_TIME: u64 = 0x10;
 

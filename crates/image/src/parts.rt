@@ -1,4 +1,5 @@
-// The clock, the timer and the client of an image, read and written.
+// The clock, the timer and the client of an image, read and written. Over any bytes, an image or not: C lends a slice, and what reads or
+// writes a part of it is total.
 ghost use Rattle.std.specs.Prelude.{◌≡◌, is_some};
 ghost use Rattle.rtc.specs.Meaning.{clock_of, option_source};
 ghost use Rattle.transition_timer.specs.Meaning.{timer_of};

@@ -1,4 +1,4 @@
-// Readings of the clock, and LocalTime.
+// Readings of the clock, and LocalTime. The two with several outputs test the image themselves, as an entry matches its table.
 ghost use Rattle.std.specs.Prelude.{◌≡◌};
 ghost use Rattle.model.specs.Answers.{number_of};
 ghost use Rattle.model.specs.Clock as C;

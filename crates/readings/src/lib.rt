@@ -55,7 +55,7 @@ fn tell(read: Result<u64, Refusal>, value: &mut u64) -> u64
     }
 }
 
-// Writes the value that was read, `none` where it is missing, and the mark beside it; else answers the number of the refusal.
+// Writes the value that was read, `none` (the 0 of its type) where it is missing, and the mark beside it; else answers the number of the refusal.
 fn tell_option<T: Copy>(
     read: Result<Option<T>, Refusal>,
     none: T,

@@ -7,7 +7,7 @@ ghost use Rattle.readings.specs.Readings.{zones_listed, windows_listed, zone_lim
 use crate::{lists, tell};
 use table::layout::{window_count, window_limit, zone_count, zone_limit};
 
-// TimeZoneDatabase None: no zone is known by its name.
+// TimeZoneDatabase None, by its number, as C reads it: no zone is known by its name.
 const NO_DATABASE: u64 = 2;
 
 // TimeZone: how many zones are listed.

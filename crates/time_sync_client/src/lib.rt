@@ -28,7 +28,7 @@ pub struct Reading {
     pub granularity: Option<u8>,
 }
 
-// What an attempt got.
+// What an attempt got. Not a `Result`: with an error enum of three the matches are as many, and a level deeper.
 #[derive(Clone, Copy)]
 enum Refresh {
     Applied(u64, TimeGranularity),

@@ -1,4 +1,5 @@
-// What a clock answers to a script: one clock of build moment 0, which is lent to each call that changes it and is read by value.
+// What a clock answers to a script: one clock of build moment 0, which is lent to each call that changes it and is read by value. What prints
+// an answer is a function and no `Display`, since the types are those of other crates.
 ghost use Rattle.std.specs.Prelude.{◌<◌, ◌≤◌, length, IfSome};
 
 use crate::reader::Reader;

@@ -112,15 +112,15 @@ pub(crate) fn told(out: &mut impl Write, returned: u64) -> Result<()> {
 // LocalTime at a tick.
 fn local(out: &mut impl Write, image: &[u8], tick: u64) -> Result<()> {
     let mut there: u64 = 0;
-    let mut utc: u64 = 0;
-    let returned = timesync_local_time(image, tick, &mut there, &mut utc);
+    let mut local_us: u64 = 0;
+    let returned = timesync_local_time(image, tick, &mut there, &mut local_us);
     if returned != 0 {
         return told(out, returned);
     }
     if there == 0 {
         write!(out, " null")
     } else {
-        write!(out, " {utc}")
+        write!(out, " {local_us}")
     }
 }
 

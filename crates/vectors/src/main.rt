@@ -75,7 +75,7 @@ fn turn(out: &mut impl Write, table: &mut [u8], kept: usize) -> Result<Option<us
     Ok(None)
 }
 
-// Answers the whole input, or as much as can be written.
+// Answers the whole input, or as much as can be written. There is no heap: the bytes of a row that is cut stay at the front of the table.
 // A proved loop ends, and nothing says that the input does: the turns are counted, up to a number that no run uses up.
 fn run(out: &mut impl Write) -> Result<()> {
     let mut table = io::large_buffer();

@@ -25,6 +25,7 @@ impl<'a> Reader<'a> {
         Some(*part)
     }
 
+    // Numbers, by their width: std has a `from_le_bytes` of each.
     pub(crate) fn u8(&mut self) -> Option<u8>
         ensures { IfSome result (λ n. length self.new.rest.now + 1 ≡ length self.old.rest.now) }
     {
