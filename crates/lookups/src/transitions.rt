@@ -59,22 +59,25 @@ pub fn next_transition(table: &[u8], utc: u64) -> Option<u64>
     moment_of(window_transition(table, utc, zone_transition(table, utc)))
 }
 
-// From a moment on to the next transition, until there is none.
+// From a moment on to the next transition, until there is none. The walk is made in place: moments that are put into it at the end stood on
+// the stack twice, and a caller's call missed its bound.
 pub fn walk(table: &[u8], start: u64) -> Walk
     ensures { result ≡ walk_owned (W.walk (lists_in table.now) start) }
 {
-    let mut moments = [0; MOST_MOMENTS];
-    moments[0] = start;
+    let mut walk = Walk {
+        moments: [0; MOST_MOMENTS],
+        steps: 0,
+    };
+    walk.moments[0] = start;
     let mut at = start;
     for steps in 0..MOST_STEPS {
         let Some(next) = next_transition(table, at) else {
-            return Walk { moments, steps };
+            walk.steps = steps;
+            return walk;
         };
-        moments[steps + 1] = next;
+        walk.moments[steps + 1] = next;
         at = next;
     }
-    Walk {
-        moments,
-        steps: MOST_STEPS,
-    }
+    walk.steps = MOST_STEPS;
+    walk
 }

@@ -22,7 +22,8 @@ fn walked(image: &[u8], start: u64, moments: &mut [u8]) -> Result<u64, Refusal>
     ensures { let r = walked image.now start (length moments.old) in
         (told result ≡ counted r (λ w. w.steps)) × (moments.new ≡ leaves_copy r walk_bytes moments.old) }
 {
-    let walk = lookups::transitions::walk(lists(image)?, start);
+    let table = lists(image)?;
+    let walk = lookups::transitions::walk(table, start);
     if word::put_u64s(moments, walk.walked()) {
         Ok(walk.steps as u64)
     } else {

@@ -5,13 +5,13 @@ use Rattle.readings.proofs.Answered.{walk_is, walk_answers}
 use Rattle.readings.proofs.Copies.{walk_roomy, walk_short, walk_placed, walk_steps}
 use Rattle.readings.proofs.transitions.walked.Goals as goal
 
-pub returns-in_err-lists : goal.returns-in_err-lists
-returns-in_err-lists c = rw (walk_is c.args.image.now c.args.start) (search rules)
+pub returns-in_err-table : goal.returns-in_err-table
+returns-in_err-table c = rw (walk_is c.args.image.now c.args.start) (search rules)
 
 pub returns-then-put_u64s : goal.returns-then-put_u64s
 returns-then-put_u64s c =
     let a = c.args in
-    let t = c.in_ok-lists.field-0.now in
+    let t = c.in_ok-table.table.now in
     let w = c.walk-walk.result in
     let ms = c.walked.result.now in
     let b = walk_roomy t a.start w ms c.walk-walk.ensures c.walked.ensures a.moments.now (sym c.put_u64s.ensures.0 ∙ c.if-put_u64s.true) in
@@ -21,7 +21,7 @@ returns-then-put_u64s c =
 pub returns-else-put_u64s : goal.returns-else-put_u64s
 returns-else-put_u64s c =
     let a = c.args in
-    let t = c.in_ok-lists.field-0.now in
+    let t = c.in_ok-table.table.now in
     let w = c.walk-walk.result in
     let ms = c.walked.result.now in
     let b = walk_short t a.start w ms c.walk-walk.ensures c.walked.ensures a.moments.now (sym c.put_u64s.ensures.0 ∙ c.if-put_u64s.false) in
