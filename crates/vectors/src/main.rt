@@ -18,6 +18,11 @@ use std::io::{Result, Write};
 // Standard input.
 const STDIN_FILENO: i32 = 0;
 
+// The word of a row at which its bytes begin: of a history, which has three numbers before them, and of any other.
+const HISTORY_BYTES: usize = 4;
+
+const BYTES: usize = 1;
+
 // Answers one row: a letter for what is asked, then bytes in hexadecimal digits; a history has three decimal numbers before them.
 fn answer(out: &mut impl Write, row: &[u8]) -> Result<()> {
     out.write_all(row)?;
@@ -25,9 +30,13 @@ fn answer(out: &mut impl Write, row: &[u8]) -> Result<()> {
         return Ok(());
     };
     write!(out, ": ")?;
-    let digits = row.rsplit(|b| *b == b' ').next().unwrap_or(&[]);
+    let word = if *letter == b'h' {
+        HISTORY_BYTES
+    } else {
+        BYTES
+    };
     let mut memory = io::buffer();
-    let given = text::hex(digits, &mut memory);
+    let given = text::hex(text::from_word(row, word), &mut memory);
     match letter {
         b'u' => bytes::utf8(out, given),
         b'z' => bytes::zones(out, given),
