@@ -26,7 +26,7 @@ pub record OneResult : Type 0 where
   pub loaded : (c : Clock) → Injective (loaded_of c)
   pub utc_time_set : Injective utc_time_set_of
   pub utc_time_persisted : Injective utc_time_persisted_of
-  -- of a source that is set the clock and the kind of the change, and where it is persisted all
+  -- of a trusted source that is set the clock and the kind of the change, and of one that is persisted the source too
   pub source_set : (a b : SourceSet) → source_set_of a ≡ source_set_of b → (a.rtc ≡ b.rtc) × (kind_of a.change ≡ kind_of b.change)
   pub source_persisted : Injective source_persisted_of
 
