@@ -2,3 +2,4 @@ pub mod Walk
 pub mod Shown
 pub mod Whole
 pub mod Agree
+pub mod There
