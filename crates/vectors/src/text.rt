@@ -1,5 +1,5 @@
 // Reads the words of a row: hexadecimal digits and decimal numbers.
-ghost use Rattle.std.specs.Prelude.{◌/◌, ◌≡◌, ◌≤◌, length, min};
+ghost use Rattle.std.specs.Prelude.{◌/◌, ◌<◌, ◌≡◌, ◌≤◌, length, min};
 
 // The value of a hexadecimal digit, and 0 for any other byte. Not by `to_digit`, which takes capital letters too.
 fn digit(b: u8) -> u8
