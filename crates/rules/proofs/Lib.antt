@@ -1,4 +1,6 @@
 pub mod Walk
+pub mod Ends
 pub mod Shown
 pub mod Whole
 pub mod Agree
+pub mod Readers
