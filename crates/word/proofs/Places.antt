@@ -1,8 +1,9 @@
 -- What stands at a place where the bytes fit, and where they do not.
-use Rattle.std.proofs.Common.{None, Some, Bool, true, false, cond, List, ◌≡◌, refl, sym, ◌∙◌, ℕ, ◌+◌, ◌≤◌, ◌<◌, arith, le-leb, leb-true, length, take, drop, length-drop, drop-drop}
+use Rattle.std.proofs.Common.{None, Some, Bool, true, false, cond, List, ◌≡◌, refl, sym, ap, ◌∙◌, ℕ, ◌+◌, ◌-◌, ◌≤◌, ◌<◌, arith, le-leb, leb-true, length, take, drop, length-drop, length-take-le, take_all, drop-drop}
 use Rattle.std.proofs.lemmas.Bool.{lt-leb}
+use Rattle.std.specs.List.{slice_range}
 use Rattle.model.specs.Bytes.{take_bytes, number, well_formed}
-use Rattle.word.specs.Place.{fits_at, number_at, text_at, put, placed}
+use Rattle.word.specs.Place.{fits_at, number_at, text_at, put, placed, copied}
 
 module _ (w : ℕ) (s : List ℕ) (at : ℕ) where
   -- where they fit, the bytes at a place are what a reader takes off the bytes from there on
@@ -45,3 +46,30 @@ text_there n s at t = go (fits_at s at n) t
 pub placed_there : (s : List ℕ) (at : ℕ) (bs : List ℕ) → at + length bs ≤ length s → placed s at bs ≡ put s at bs
 unfolding placed
 placed_there s at bs h = rw (le-leb (at + length bs) (length s) h)
+
+-- ## A part copied
+
+-- where both have the bytes
+pub copied_there : (s : List ℕ) (at : ℕ) (t : List ℕ) (from n : ℕ) → from + n ≤ length t → at + n ≤ length s → copied s at t from n ≡ put s at (take n (drop from t))
+unfolding copied
+copied_there s at t from n h k = rw (le-leb (from + n) (length t) h, le-leb (at + n) (length s) k)
+
+-- where the bytes are there, they are placed
+pub copied_placed : (s : List ℕ) (at : ℕ) (t : List ℕ) (from n : ℕ) → from + n ≤ length t → copied s at t from n ≡ placed s at (take n (drop from t))
+unfolding copied placed
+copied_placed s at t from n h =
+    let l : length (take n (drop from t)) ≡ n = length-take-le n (drop from t) (omega (arith, length-drop from t)) in
+    rw (le-leb (from + n) (length t) h, l)
+
+-- they are the first of what is left after `from`
+pub cut_twice : (t : List ℕ) (from n : ℕ) {rest part : List ℕ} → from + n ≤ length t → rest ≡ slice_range t from (length t) → part ≡ slice_range rest 0 n → part ≡ take n (drop from t)
+cut_twice t from n {rest = rest} h e p =
+    let a : length t - from ≡ length (drop from t) = omega (arith, length-drop from t) in
+    let b : n - 0 ≡ n = omega arith in
+    let c : rest ≡ drop from t = e ∙ ap (λ (k : ℕ). take k (drop from t)) a ∙ take_all (length (drop from t)) (drop from t) (omega arith) in
+    p ∙ ap (λ (k : ℕ). take k rest) b ∙ ap (take n) c
+
+-- where they are not, nothing is
+pub copied_few : (s : List ℕ) (at : ℕ) (t : List ℕ) (from n : ℕ) → length t < from + n → copied s at t from n ≡ s
+unfolding copied
+copied_few s at t from n h = rw (lt-leb (from + n) (length t) h)
