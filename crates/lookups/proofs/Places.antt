@@ -1,8 +1,8 @@
 -- What is looked up in the places of the entries is what is looked up in the lists.
-use Rattle.std.proofs.Common.{◌≡◌, refl, sym, ap, ◌∙◌, ℕ, suc, ◌≤◌, ◌<◌, Bool, true, false, cond, ◌||◌, eqb, ℤ, List, [], ◌∷◌, ◌++◌, length, map, reverse, fold, Option, Bor, MatchOption, option_map, unwrap_or, arith, ne_eqb, ltb, eqb-true, eq-eqb, ltb-true, ltb-false, ◌+◌, min, take, drop, not, ◌==◌, is_some, IfSome, None, Some, slice_get}
+use Rattle.std.proofs.Common.{◌≡◌, refl, sym, ap, ◌∙◌, ℕ, suc, ◌≤◌, Bool, true, false, cond, ◌||◌, eqb, ℤ, List, [], ◌∷◌, ◌++◌, length, map, reverse, fold, Option, Bor, MatchOption, option_map, unwrap_or, arith, ne_eqb, ltb, eqb-true, eq-eqb, ltb-true, ltb-false, ◌+◌, min, take, drop, not, ◌==◌, is_some, IfSome, None, Some, slice_get}
 use Rattle.std.proofs.lemmas.List.{reverse-append}
 use Rattle.std.proofs.lemmas.List.Folds.{find-append, list_any-append}
-use Rattle.std.proofs.lemmas.Option.{cond_some, slice_get_past, slice_get_read}
+use Rattle.std.proofs.lemmas.Option.{slice_get_past, slice_get_read}
 use Rattle.std.specs.List.{find, list_any}
 use Rattle.std.specs.Bool.{then_some}
 use Rattle.std.specs.Slice.{IsItemAt}
@@ -12,13 +12,13 @@ use Rattle.model.specs.Lists.{Zone, Window}
 use Rattle.model.specs.Lookups as L
 use Rattle.model.proofs.Facts.{by_test}
 use Rattle.word.specs.Place.{byte_at, word_at}
-use Rattle.table.specs.Layout.{zone_count_place, zone_place, window_place, zone_count, window_count, zone_at, window_at, zone_places, window_places, zones_in, windows_in, lists_in}
-use Rattle.table.proofs.Counts.{count_most, zone_stands, window_stands}
+use Rattle.table.specs.Layout.{zone_place, window_place, zone_count, window_count, zone_at, window_at, zone_places, window_places, zones_in, windows_in, lists_in}
+use Rattle.table.proofs.Counts.{zone_stands, window_stands}
 use Rattle.table.proofs.Places.{byte_in, lists_by_places, zone_in_place, window_in_place}
 use Rattle.record.specs.declared.NamePlace.{NamePlace}
 use Rattle.lookups.specs.declared.DSTOffsetEntry.{DSTOffsetEntry}
 use Rattle.lookups.specs.declared.ZoneShown.{ZoneShown}
-use Rattle.lookups.specs.Shown.{shown_at, blank_shown, window_shown, window_listed_in, zone_there, zone_listed_in}
+use Rattle.lookups.specs.Shown.{blank_shown, window_shown, window_listed_in, zone_there, zone_listed_in}
 use Rattle.lookups.specs.Transitions.{sooner, soonest}
 use Rattle.lookups.proofs.Entries.{listed}
 use Rattle.lookups.proofs.Soonest.{past_end}
@@ -211,12 +211,6 @@ zone_read s ps i r e k = item (zone_shown i) ps (zone_places s) i r e k ∙ zone
 pub shown_parts : {o o' : ℤ} {t t' : ℕ} {n n' : Option NamePlace} → o ≡ o' → t ≡ t' → n ≡ n'
     → ◌≡◌ {A = ZoneShown} (record { offset = o; valid_at = t; name = n }) (record { offset = o'; valid_at = t'; name = n' })
 shown_parts p q r = cc
-
--- a zone that is there has one of the 8 places
-pub index_small : (s : List ℕ) (i : ℕ) (z : ZoneShown) → zone_there s i ≡ Some z → i < 8
-unfolding zone_there
-index_small s i z e =
-    omega (arith, ltb-true i (zone_count s) (cond_some (ltb i (zone_count s)) (shown_at s (zone_place i)) z e).0, count_most zone_count_place 8 s)
 
 -- a name that is made where the mark is set
 pub named : (i : ℕ) (p : List ℕ) (r : Option NamePlace) → is_some r ≡ not (byte_at p 12 == 0) → IfSome r (λ n. n ≡ record { at = zone_place i + 14; len = min (byte_at p 13) 64 })

@@ -65,9 +65,8 @@ impl ZoneShown {
         Some(&rest[..place.len.min(rest.len())])
     }
 
-    // The name to the front of `out` where it has room, and how long it is; else nothing is written. A name that stands whole in the table is
-    // copied by the length that is tested there: by the lesser of two (tried) the compiler no longer sees that it is at most 64.
-    #[tactic(auto, using(word::proofs::Writes::placed_front, word::proofs::Writes::part_inside, word::proofs::Writes::copied_inside))]
+    // The name to the front of `out` where it has room, and how long it is; else nothing is written.
+    #[tactic(auto, using(word::proofs::Writes::part_inside, word::proofs::Writes::copied_inside))]
     pub fn put_name(&self, table: &[u8], out: &mut [u8]) -> Option<usize>
         ensures length { let n = name_or (shown_name table.now self.now) in
             result ≡ cond (too_short (length out.old) n) None (Some (length n)) }
@@ -77,10 +76,8 @@ impl ZoneShown {
         let Some(place) = self.name else {
             return Some(0);
         };
-        if word::in_bounds(table, place.at, place.len) {
-            return word::copy(out, 0, table, place.at, place.len).then_some(place.len);
-        }
-        let name = self.name_in(table).unwrap_or_default();
-        word::put(out, 0, name).then_some(name.len())
+        let from = place.at.min(table.len());
+        let len = place.len.min(table.len() - from);
+        word::copy(out, 0, table, from, len).then_some(len)
     }
 }

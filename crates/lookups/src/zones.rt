@@ -5,9 +5,7 @@ ghost use Rattle.table.specs.Layout.{zone_at, lists_in};
 ghost use Rattle.lookups.specs.Shown.{shown_by, active_index, zone_there, zone_listed_in};
 
 use crate::{NamePlace, OFFSET, ZoneShown};
-use table::layout::{
-    MARK, MOST_NAME, MOST_ZONES, NAME, NAME_LENGTH, START, ZONE_SIZE, ZONES, zones,
-};
+use table::layout::{MARK, MOST_NAME, NAME, NAME_LENGTH, START, ZONE_SIZE, ZONES, zones};
 use word::or_zero::{i32_at, u64_at};
 
 // The zone with index i, if it is there.
@@ -15,10 +13,8 @@ fn zone_shown(table: &[u8], i: usize) -> Option<ZoneShown>
     ensures { result ≡ zone_there table.now i }
 {
     let place = zones(table).get(i)?;
-    // The index is below the most zones: by the remainder the compiler sees it too, and that every name stands inside the table.
-    let at = ZONES + ZONE_SIZE * (i % MOST_ZONES) + NAME;
     let name = (place[MARK] != 0).then(|| NamePlace {
-        at,
+        at: ZONES + ZONE_SIZE * i + NAME,
         len: (place[NAME_LENGTH] as usize).min(MOST_NAME),
     });
     Some(ZoneShown {
