@@ -18,8 +18,8 @@ use model::{Refusal, TAKEN};
 // and is copied by its own length: by `ZoneShown::put_name` (tried), which takes any zone, a listed entry takes more than the Rust's.
 #[tactic(auto, using(word::proofs::Writes::copied_inside, crate::proofs::Whole::whole_name, std::proofs::lemmas::Grind::common_steps))]
 fn put_name(table: &[u8], zone: ZoneShown, name: &mut [u8]) -> Option<usize>
-    requires { table_size ≤ length table.now }
-    requires { EndsInside zone }
+    requires whole { table_size ≤ length table.now }
+    requires inside { EndsInside zone }
     ensures length { let n = name_or (shown_name table.now zone) in
         result ≡ cond (too_short (length name.old) n) None (Some (length n)) }
     ensures copied { let n = name_or (shown_name table.now zone) in
@@ -40,8 +40,8 @@ fn show_zone(
     named: &mut u64,
     name_len: &mut u64,
 ) -> Result<(), Refusal>
-    requires { table_size ≤ length table.now }
-    requires { EndsInside zone }
+    requires whole { table_size ≤ length table.now }
+    requires inside { EndsInside zone }
     ensures { let r = showing table.now zone (length name.old) in
         (result ≡ taken r)
         × (name.new ≡ leaves_copy r now_name name.old)
@@ -57,7 +57,7 @@ fn show_zone(
 }
 
 // TimeZone: one of the listed zones; its name is copied to the front of `name`.
-#[tactic(auto, using(crate::proofs::Answered::zone_none, crate::proofs::Answered::zone_some))]
+#[tactic(auto, using(crate::proofs::Answered::zone_none, crate::proofs::Answered::zone_some, crate::proofs::Whole::table_whole, crate::proofs::Whole::listed_inside))]
 pub fn time_zone(
     image: &[u8],
     index: usize,
@@ -121,7 +121,7 @@ pub fn dst_offset(
 }
 
 // The active zone; its name is copied to the front of `name`.
-#[tactic(auto, using(crate::proofs::Answered::active_zone_answers))]
+#[tactic(auto, using(crate::proofs::Answered::active_zone_answers, crate::proofs::Whole::table_whole, crate::proofs::Whole::active_inside))]
 pub fn active_time_zone(
     image: &[u8],
     utc: u64,
