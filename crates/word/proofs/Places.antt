@@ -1,7 +1,6 @@
 -- What stands at a place where the bytes fit, and where they do not.
-use Rattle.std.proofs.Common.{None, Some, Bool, true, false, cond, List, ◌≡◌, refl, sym, ap, ◌∙◌, ℕ, ◌+◌, ◌-◌, ◌≤◌, ◌<◌, arith, le-leb, leb-true, length, take, drop, length-drop, length-take-le, take_all, drop-drop}
+use Rattle.std.proofs.Common.{None, Some, Bool, true, false, cond, List, ◌≡◌, refl, sym, ◌∙◌, ℕ, ◌+◌, ◌≤◌, ◌<◌, arith, le-leb, leb-true, length, take, drop, length-drop, length-take-le, drop-drop}
 use Rattle.std.proofs.lemmas.Bool.{lt-leb}
-use Rattle.std.specs.List.{slice_range}
 use Rattle.model.specs.Bytes.{take_bytes, number, well_formed}
 use Rattle.word.specs.Place.{fits_at, number_at, text_at, put, placed, copied}
 
@@ -60,14 +59,6 @@ unfolding copied placed
 copied_placed s at t from n h =
     let l : length (take n (drop from t)) ≡ n = length-take-le n (drop from t) (omega (arith, length-drop from t)) in
     rw (le-leb (from + n) (length t) h, l)
-
--- they are the first of what is left after `from`
-pub cut_twice : (t : List ℕ) (from n : ℕ) {rest part : List ℕ} → from + n ≤ length t → rest ≡ slice_range t from (length t) → part ≡ slice_range rest 0 n → part ≡ take n (drop from t)
-cut_twice t from n {rest = rest} h e p =
-    let a : length t - from ≡ length (drop from t) = omega (arith, length-drop from t) in
-    let b : n - 0 ≡ n = omega arith in
-    let c : rest ≡ drop from t = e ∙ ap (λ (k : ℕ). take k (drop from t)) a ∙ take_all (length (drop from t)) (drop from t) (omega arith) in
-    p ∙ ap (λ (k : ℕ). take k rest) b ∙ ap (take n) c
 
 -- where they are not, nothing is
 pub copied_few : (s : List ℕ) (at : ℕ) (t : List ℕ) (from n : ℕ) → length t < from + n → copied s at t from n ≡ s

@@ -85,19 +85,17 @@ pub fn put(out: &mut [u8], at: usize, part: &[u8]) -> bool
     fits
 }
 
-// Copies n bytes of s from `from` on to `at`, where both slices have so many, else nothing; answers whether they do.
-#[tactic(auto, using(crate::proofs::Places::copied_placed, crate::proofs::Places::copied_few, crate::proofs::Places::cut_twice))]
+// Copies n bytes of s from `from` on to `at`, where both slices have so many, else nothing; answers whether they do. By `in_bounds`: where the
+// part comes out of `get` (tried) the compiler forgets what it knows of its length, and a listed entry takes more than the Rust's.
+#[tactic(auto, using(crate::proofs::Places::copied_placed, crate::proofs::Places::copied_few))]
 pub fn copy(out: &mut [u8], at: usize, s: &[u8], from: usize, n: usize) -> bool
     ensures there { result ≡ fits_at s.now from n && fits_at out.old at n }
     ensures copied { out.new ≡ copied out.old at s.now from n }
 {
-    let Some(rest) = s.get(from..) else {
+    if !in_bounds(s, from, n) {
         return false;
-    };
-    let Some(part) = rest.get(..n) else {
-        return false;
-    };
-    put(out, at, part)
+    }
+    put(out, at, &s[from..from + n])
 }
 
 // The 64-bit number at `at`.
