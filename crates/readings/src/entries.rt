@@ -14,9 +14,9 @@ use lookups::windows::dst_offset_at;
 use lookups::zones::time_zone_at;
 use model::{Refusal, TAKEN};
 
-// The name of a zone that a table shows, to the front of `name` where it has room, and how long it is. Such a name stands whole in the table
-// and is copied by its own length: by `ZoneShown::put_name` (tried), which takes any zone, a listed entry takes more than the Rust's.
-#[tactic(auto, using(word::proofs::Writes::copied_inside, crate::proofs::Whole::whole_name, std::proofs::lemmas::Grind::common_steps))]
+// The name of a zone that a table shows, to the front of `name` where it has room, and how long it is. Such a name stands whole in the table,
+// so where it stands is not tested: by `ZoneShown::put_name` (tried), which takes any zone, a listed entry takes more than the Rust's.
+#[tactic(auto, using(word::proofs::Writes::placed_front, crate::proofs::Whole::whole_name, std::proofs::lemmas::Grind::common_steps))]
 fn put_name(table: &[u8], zone: ZoneShown, name: &mut [u8]) -> Option<usize>
     requires whole { table_size ≤ length table.now }
     requires inside { EndsInside zone }
@@ -28,7 +28,8 @@ fn put_name(table: &[u8], zone: ZoneShown, name: &mut [u8]) -> Option<usize>
     let Some(place) = zone.name else {
         return Some(0);
     };
-    word::copy(name, 0, table, place.at, place.len).then_some(place.len)
+    let stored = &table[place.at..place.at + place.len];
+    word::put(name, 0, stored).then_some(place.len)
 }
 
 // A zone that a table shows, where its name has room: that to the front of `name`, and the rest of it.
