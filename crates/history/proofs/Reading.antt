@@ -5,7 +5,8 @@ use Rattle.model.specs.Bytes.{Front, then, take_bytes, number}
 use Rattle.model.specs.History.{Call}
 use Rattle.model.proofs.Facts.{by_test}
 use Rattle.history.specs.Calls.{read_sized, read_argument, call_with, read_call, followed, and_on, read_calls_by, read_calls}
-use Rattle.history.specs.Laws.{There, CallThere, CallsGoOn, CallsStop, First, FirstCall, Enough, History, IsHistory, Fold, FoldLaws}
+use Rattle.history.specs.Shown.{call_of}
+use Rattle.history.specs.Laws.{There, CallThere, Parts, CallParts, CallsGoOn, CallsStop, First, FirstCall, Begins, CallsBegin, NotReadable, NoCalls, Enough, History, IsHistory, Fold, FoldLaws}
 
 -- two answers with a call are the same call and the same bytes after it
 same_parts : {c d : Call} {s t : List ℕ} → ◌≡◌ {A = Front Call} (Some (c, s)) (Some (d, t)) → (c ≡ d) × (s ≡ t)
@@ -16,33 +17,44 @@ same_parts {c} {d} {s} {t} e =
 -- ## The call that bytes begin with
 
 module _ (k : ℕ) (t : List ℕ) (c : Call) (rest : List ℕ) where
-  there_bare : k ≤ 4 → read_call (k ∷ t) ≡ Some (c, rest) → ◌≡◌ {A = Front Call} (Some (call_with k [], t)) (Some (c, rest)) → There (k ∷ t) c rest
-  there_bare h read e =
+  parts_bare : k ≤ 4 → read_call (k ∷ t) ≡ Some (c, rest) → ◌≡◌ {A = Front Call} (Some (call_with k [], t)) (Some (c, rest)) → Parts (k ∷ t) c rest
+  parts_bare h read e =
       let p = same_parts e in
-      record { k = k; from = 0; len = 0; size = 1; call = sym p.0; kind = h; argument = omega arith; onward = omega arith; within = omega arith; follows = sym p.1; read = read }
+      record {
+        there = record { k = k; from = 1; len = 0; size = 1; call = sym p.0; kind = h; argument = omega arith; onward = omega arith; within = omega arith; follows = sym p.1; read = read };
+        ends = refl;
+        bare = λ b. refl;
+      }
 
-  there_sized : k ≤ 2 → read_call (k ∷ t) ≡ Some (c, rest) → then (read_sized t) (λ b s₂. Some (call_with k b, s₂)) ≡ Some (c, rest) → There (k ∷ t) c rest
+  parts_sized : k ≤ 2 → read_call (k ∷ t) ≡ Some (c, rest) → then (read_sized t) (λ b s₂. Some (call_with k b, s₂)) ≡ Some (c, rest) → Parts (k ∷ t) c rest
   unfolding read_sized take_bytes
-  there_sized h read e =
+  parts_sized h read e =
       by_test (leb 4 (length t))
       (λ f. by_test (leb (number (take 4 t)) (length (drop 4 t)))
       (λ g.
       let n = number (take 4 t) in
       let p = same_parts (rw (f, g) at e) in
       let l : 5 + n ≤ length (k ∷ t) = omega (arith, leb-true _ _ f, leb-true _ _ g, length-drop 4 t) in
-      record { k = k; from = 5; len = n; size = 5 + n; call = sym p.0; kind = omega arith; argument = l; onward = omega arith; within = l; follows = sym p.1 ∙ drop-drop n 5 (k ∷ t); read = read })
+      record {
+        there = record { k = k; from = 5; len = n; size = 5 + n; call = sym p.0; kind = omega arith; argument = l; onward = omega arith; within = l; follows = sym p.1 ∙ drop-drop n 5 (k ∷ t); read = read };
+        ends = refl;
+        bare = λ b. absurd (omega arith);
+      })
       (λ g. let q = rw (f, g) at e in cc))
       (λ f. let q = rw f at e in cc)
 
-pub call_there : CallThere
+pub call_parts : CallParts
 unfolding read_call read_argument
-call_there [] c rest e = cc
-call_there (k ∷ t) c rest e =
+call_parts [] c rest e = cc
+call_parts (k ∷ t) c rest e =
     by_test (ltb k 3)
-    (λ f. let h = ltb-true k 3 f in there_sized k t c rest (omega arith) e (rw f at e))
+    (λ f. let h = ltb-true k 3 f in parts_sized k t c rest (omega arith) e (rw f at e))
     (λ f. by_test (ltb k 5)
-    (λ g. let h = ltb-true k 5 g in there_bare k t c rest (omega arith) e (rw (f, g) at e))
+    (λ g. let h = ltb-true k 5 g in parts_bare k t c rest (omega arith) e (rw (f, g) at e))
     (λ g. let q = rw (f, g) at e in cc))
+
+pub call_there : CallThere
+call_there s c rest e = (call_parts s c rest e).there
 
 -- what follows a call is shorter
 pub shorter : (s : List ℕ) (c : Call) (rest : List ℕ) → read_call s ≡ Some (c, rest) → length rest < length s
@@ -145,6 +157,70 @@ is_history_lem s e = go (read_calls s) refl e
     go : (o : Option (List Call)) → read_calls s ≡ o → is_some o ≡ true → History s
     go None r q = cc
     go (Some cs) r q = record { calls = cs; read = r }
+
+-- ## At any place, with any fuel
+
+-- bytes that are there have a call
+some_call : (l : List ℕ) → 0 < length l → read_calls l ≡ Some [] → ⊥
+unfolding read_calls read_calls_by
+some_call [] h q = absurd (omega arith)
+some_call (b ∷ l) h q = go (read_call (b ∷ l)) q
+  where
+    before : (c : Call) (o : Option (List Call)) → followed c o ≡ Some [] → ⊥
+    before c None r = cc
+    before c (Some cs) r = cc
+
+    go : (f : Front Call) → and_on f (λ s₁. read_calls_by (length l) s₁) ≡ Some [] → ⊥
+    go None r = cc
+    go (Some (c, rest)) r = before c (read_calls_by (length l) rest) r
+
+pub calls_begin : CallsBegin
+unfolding read_calls
+calls_begin s at n cs h e = go cs (enough (drop at s) n cs e)
+  where
+    go : (cs : List Call) → read_calls (drop at s) ≡ Some cs → Begins s at cs
+    go [] q = absurd (some_call (drop at s) (omega (arith, length-drop at s)) q)
+    go (c ∷ others) q =
+        let f = first_call (drop at s) c others q in
+        let p = call_parts (drop at s) c f.rest f.there.read in
+        let t = p.there in
+        let e₁ : c ≡ call_of s t.k (at + t.from) t.len = t.call ∙ ap (λ (b : List ℕ). call_with t.k (take t.len b)) (drop-drop t.from at s) in
+        let e₂ : f.rest ≡ drop (at + t.size) s = t.follows ∙ drop-drop t.size at s in
+        record {
+          k = t.k;
+          from = at + t.from;
+          len = t.len;
+          next = at + t.size;
+          others = others;
+          fuel = length f.rest;
+          read = rw (← e₁, ← e₂) t.read;
+          calls = ap (λ (x : Call). x ∷ others) e₁;
+          rest = ap (λ (b : List ℕ). read_calls_by (length f.rest) b) (sym e₂) ∙ f.others;
+          kind = t.kind;
+          argument = omega (arith, t.argument, length-drop at s);
+          ends = omega (arith, p.ends);
+          bare = p.bare;
+          onward = omega (arith, t.onward);
+          within = omega (arith, t.within, length-drop at s);
+        }
+
+pub no_call : NotReadable
+no_call s at n h e = go (read_calls_by n (drop at s)) refl
+  where
+    stops : read_calls (drop at s) ≡ None
+    stops = calls_stop (drop at s) e ∙ rw (ne_eqb (length (drop at s)) 0 (omega (arith, length-drop at s)))
+
+    go : (o : Option (List Call)) → read_calls_by n (drop at s) ≡ o → o ≡ None
+    go None q = refl
+    go (Some cs) q = sym (enough (drop at s) n cs q) ∙ stops
+
+pub no_calls : NoCalls
+unfolding read_calls read_calls_by
+no_calls s at n cs h e = over (drop at s) (length-drop at s ∙ omega arith) (enough (drop at s) n cs e)
+  where
+    over : (l : List ℕ) → length l ≡ 0 → read_calls l ≡ Some cs → cs ≡ []
+    over [] k q = cc
+    over (b ∷ l) k q = absurd (omega arith)
 
 -- ## A step for each call
 

@@ -24,6 +24,16 @@ pub record There (s : List ℕ) (c : Call) (rest : List ℕ) : Type 0 where
 abbrev pub CallThere : Type 0
 CallThere = (s : List ℕ) (c : Call) (rest : List ℕ) → read_call s ≡ Some (c, rest) → There s c rest
 
+-- the same; the argument ends where the call does, and kinds 3 and 4 have none
+pub record Parts (s : List ℕ) (c : Call) (rest : List ℕ) : Type 0 where
+  pub there : There s c rest
+  pub ends : there.from + there.len ≡ there.size
+  pub bare : 2 < there.k → there.len ≡ 0
+
+-- `call_parts` in proofs/Reading.antt
+abbrev pub CallParts : Type 0
+CallParts = (s : List ℕ) (c : Call) (rest : List ℕ) → read_call s ≡ Some (c, rest) → Parts s c rest
+
 -- it comes before the calls of what follows it: `calls_go_on` in proofs/Reading.antt
 abbrev pub CallsGoOn : Type 0
 CallsGoOn = (s : List ℕ) (c : Call) (rest : List ℕ) → read_call s ≡ Some (c, rest) → read_calls s ≡ followed c (read_calls rest)
@@ -54,6 +64,38 @@ pub record History (s : List ℕ) : Type 0 where
 -- `is_history_lem` in proofs/Reading.antt
 abbrev pub IsHistory : Type 0
 IsHistory = (s : List ℕ) → is_some (read_calls s) ≡ true → History s
+
+-- ## At any place, with any fuel
+
+-- the calls `cs` from `at` on: the first of them, where its parts stand, and the others
+pub record Begins (s : List ℕ) (at : ℕ) (cs : List Call) : Type 0 where
+  pub k : ℕ
+  pub from : ℕ
+  pub len : ℕ
+  pub next : ℕ
+  pub others : List Call
+  pub fuel : ℕ
+  pub read : read_call (drop at s) ≡ Some (call_of s k from len, drop next s)
+  pub calls : cs ≡ call_of s k from len ∷ others
+  pub rest : read_calls_by fuel (drop next s) ≡ Some others
+  pub kind : k ≤ 4
+  pub argument : from + len ≤ length s
+  pub ends : from + len ≡ next
+  pub bare : 2 < k → len ≡ 0
+  pub onward : at < next
+  pub within : next ≤ length s
+
+-- `calls_begin` in proofs/Reading.antt
+abbrev pub CallsBegin : Type 0
+CallsBegin = (s : List ℕ) (at n : ℕ) (cs : List Call) → at < length s → read_calls_by n (drop at s) ≡ Some cs → Begins s at cs
+
+-- where no call stands, nothing is readable: `no_call` in proofs/Reading.antt
+abbrev pub NotReadable : Type 0
+NotReadable = (s : List ℕ) (at n : ℕ) → at < length s → read_call (drop at s) ≡ None → read_calls_by n (drop at s) ≡ None
+
+-- at the end there are no calls: `no_calls` in proofs/Reading.antt
+abbrev pub NoCalls : Type 0
+NoCalls = (s : List ℕ) (at n : ℕ) (cs : List Call) → length s ≤ at → read_calls_by n (drop at s) ≡ Some cs → cs ≡ []
 
 -- ## A step for each call, from the first on
 

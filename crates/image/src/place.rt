@@ -17,7 +17,7 @@ pub(crate) const MAGIC: u32 = 0x3153_4d54;
 pub const STORE: usize = 4;
 
 // The clock, and what stands in it.
-pub(crate) const CLOCK: usize = 8;
+pub const CLOCK: usize = 8;
 
 pub const GRANULARITY: usize = CLOCK;
 
@@ -42,7 +42,7 @@ pub const NODE: usize = CLOCK + 32;
 pub(crate) const CLOCK_SIZE: usize = 40;
 
 // The client, and what stands in it.
-pub(crate) const CLIENT: usize = CLOCK + CLOCK_SIZE;
+pub const CLIENT: usize = CLOCK + CLOCK_SIZE;
 
 pub(crate) const PERIOD: usize = CLIENT;
 
@@ -59,7 +59,7 @@ pub(crate) const FAILED: usize = CLIENT + 33;
 pub(crate) const CLIENT_SIZE: usize = 40;
 
 // The timer, and what stands in it.
-pub(crate) const TIMER: usize = CLIENT + CLIENT_SIZE;
+pub const TIMER: usize = CLIENT + CLIENT_SIZE;
 
 pub(crate) const SEEN: usize = TIMER;
 

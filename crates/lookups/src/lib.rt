@@ -66,14 +66,18 @@ impl ZoneShown {
     }
 
     // The name to the front of `out` where it has room, and how long it is; else nothing is written.
-    #[tactic(auto, using(word::proofs::Writes::placed_front))]
+    #[tactic(auto, using(word::proofs::Writes::part_inside, word::proofs::Writes::copied_inside))]
     pub fn put_name(&self, table: &[u8], out: &mut [u8]) -> Option<usize>
         ensures length { let n = name_or (shown_name table.now self.now) in
             result ≡ cond (too_short (length out.old) n) None (Some (length n)) }
         ensures copied { let n = name_or (shown_name table.now self.now) in
             out.new ≡ cond (too_short (length out.old) n) out.old (copied_over n out.old) }
     {
-        let name = self.name_in(table).unwrap_or_default();
-        word::put(out, 0, name).then_some(name.len())
+        let Some(place) = self.name else {
+            return Some(0);
+        };
+        let from = place.at.min(table.len());
+        let len = place.len.min(table.len() - from);
+        word::copy(out, 0, table, from, len).then_some(len)
     }
 }

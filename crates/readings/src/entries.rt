@@ -1,8 +1,10 @@
 // Entries of the lists, and what is active of them at a moment. A call with several outputs matches the table itself: one function over
 // these three would take as many outputs as all of them have, and be no shorter.
-ghost use Rattle.std.specs.Prelude.{◌≡◌, length};
+ghost use Rattle.std.specs.Prelude.{◌≡◌, ◌≤◌, cond, length, None, Some};
 ghost use Rattle.model.specs.Answers.{number_of};
-ghost use Rattle.model.specs.Output.{leaves, leaves_copy, mark_of, or_zero, or_zeroℤ};
+ghost use Rattle.model.specs.Output.{leaves, leaves_copy, mark_of, or_zero, or_zeroℤ, name_or, too_short, copied_over};
+ghost use Rattle.table.specs.Layout.{table_size};
+ghost use Rattle.lookups.specs.Laws.{EndsInside, shown_name};
 ghost use Rattle.readings.specs.Readings.{zone_entry, zone_name, window_entry, active_zone, now_name, active_offset};
 ghost use Rattle.readings.specs.Stored.{showing, taken};
 
@@ -11,6 +13,24 @@ use lookups::ZoneShown;
 use lookups::windows::dst_offset_at;
 use lookups::zones::time_zone_at;
 use model::{Refusal, TAKEN};
+
+// The name of a zone that a table shows, to the front of `name` where it has room, and how long it is. Such a name stands whole in the table,
+// so where it stands is not tested: by `ZoneShown::put_name` (tried), which takes any zone, a listed entry takes more than the Rust's.
+#[tactic(auto, using(word::proofs::Writes::placed_front, crate::proofs::Whole::whole_name, std::proofs::lemmas::Grind::common_steps))]
+fn put_name(table: &[u8], zone: ZoneShown, name: &mut [u8]) -> Option<usize>
+    requires whole { table_size ≤ length table.now }
+    requires inside { EndsInside zone }
+    ensures length { let n = name_or (shown_name table.now zone) in
+        result ≡ cond (too_short (length name.old) n) None (Some (length n)) }
+    ensures copied { let n = name_or (shown_name table.now zone) in
+        name.new ≡ cond (too_short (length name.old) n) name.old (copied_over n name.old) }
+{
+    let Some(place) = zone.name else {
+        return Some(0);
+    };
+    let stored = &table[place.at..place.at + place.len];
+    word::put(name, 0, stored).then_some(place.len)
+}
 
 // A zone that a table shows, where its name has room: that to the front of `name`, and the rest of it.
 fn show_zone(
@@ -21,6 +41,8 @@ fn show_zone(
     named: &mut u64,
     name_len: &mut u64,
 ) -> Result<(), Refusal>
+    requires whole { table_size ≤ length table.now }
+    requires inside { EndsInside zone }
     ensures { let r = showing table.now zone (length name.old) in
         (result ≡ taken r)
         × (name.new ≡ leaves_copy r now_name name.old)
@@ -28,7 +50,7 @@ fn show_zone(
         × (named.new ≡ leaves r (λ z. mark_of z.name) named.old)
         × (name_len.new ≡ leaves r (λ z. length (now_name z)) name_len.old) }
 {
-    let len = zone.put_name(table, name).ok_or(Refusal::NoSpace)?;
+    let len = put_name(table, zone, name).ok_or(Refusal::NoSpace)?;
     *offset = zone.offset;
     *named = zone.name.is_some() as u64;
     *name_len = len as u64;
@@ -36,7 +58,7 @@ fn show_zone(
 }
 
 // TimeZone: one of the listed zones; its name is copied to the front of `name`.
-#[tactic(auto, using(crate::proofs::Answered::zone_none, crate::proofs::Answered::zone_some))]
+#[tactic(auto, using(crate::proofs::Answered::zone_none, crate::proofs::Answered::zone_some, crate::proofs::Whole::table_whole, crate::proofs::Whole::listed_inside))]
 pub fn time_zone(
     image: &[u8],
     index: usize,
@@ -100,7 +122,7 @@ pub fn dst_offset(
 }
 
 // The active zone; its name is copied to the front of `name`.
-#[tactic(auto, using(crate::proofs::Answered::active_zone_answers))]
+#[tactic(auto, using(crate::proofs::Answered::active_zone_answers, crate::proofs::Whole::table_whole, crate::proofs::Whole::active_inside))]
 pub fn active_time_zone(
     image: &[u8],
     utc: u64,

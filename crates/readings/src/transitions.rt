@@ -24,7 +24,8 @@ fn walked(image: &[u8], start: u64, moments: &mut [u8]) -> Result<u64, Refusal>
 {
     let table = lists(image)?;
     let walk = lookups::transitions::walk(table, start);
-    if word::put_u64s(moments, walk.walked()) {
+    let walked = walk.walked();
+    if word::put_u64s(moments, walked, walked.len()) {
         Ok(walk.steps as u64)
     } else {
         Err(Refusal::NoSpace)

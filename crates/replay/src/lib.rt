@@ -58,7 +58,7 @@ fn answered(
         return Err(Refusal::NoSpace);
     }
     let stored = table::write::put(table, out).ok_or(Refusal::NoSpace)?;
-    word::put_u64s(moments, walked);
+    word::put_u64s(moments, walked, walked.len());
     word::put(name, 0, zone_name);
     Ok(Outcome {
         steps: walk.steps,

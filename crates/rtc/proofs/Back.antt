@@ -25,5 +25,6 @@ one_result =
       loaded = λ c a b e. grind (arith, one_rtc);
       utc_time_set = λ a b e. grind (arith, one_rtc);
       utc_time_persisted = λ a b e. grind (arith, common_steps, one_rtc, append_cancel_left);
+      source_set = λ a b e. (grind (arith, common_steps, one_rtc), grind (arith, common_steps));
       source_persisted = λ a b e. grind (arith, common_steps, one_rtc);
     }

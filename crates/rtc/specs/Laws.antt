@@ -3,7 +3,8 @@ use Rattle.std.specs.Prelude.{◌≡◌, ℕ, ◌≤◌}
 use Rattle.model.specs.Claims.{NotBefore}
 use Rattle.model.specs.Clock.{Clock, reading}
 use Rattle.rtc.specs.declared.Rtc.{Rtc}
-use Rattle.rtc.specs.Meaning.{clock_of, rtc_of, option_source, reading_of, reset_of, loaded_of, utc_time_set_of, utc_time_persisted_of, source_persisted_of}
+use Rattle.rtc.specs.declared.SourceSet.{SourceSet}
+use Rattle.rtc.specs.Meaning.{clock_of, rtc_of, option_source, reading_of, reset_of, loaded_of, utc_time_set_of, utc_time_persisted_of, kind_of, source_set_of, source_persisted_of}
 
 -- ## A contract that equates meanings leaves one result: proofs/Back.antt
 
@@ -25,6 +26,8 @@ pub record OneResult : Type 0 where
   pub loaded : (c : Clock) → Injective (loaded_of c)
   pub utc_time_set : Injective utc_time_set_of
   pub utc_time_persisted : Injective utc_time_persisted_of
+  -- of a trusted source that is set the clock and the kind of the change, and of one that is persisted the source too
+  pub source_set : (a b : SourceSet) → source_set_of a ≡ source_set_of b → (a.rtc ≡ b.rtc) × (kind_of a.change ≡ kind_of b.change)
   pub source_persisted : Injective source_persisted_of
 
 -- ## Readings: proofs/Readings.antt

@@ -98,6 +98,17 @@ change_effects C.Same = []
 change_effects (C.Installed t) = report TrustedTimeSource ∷ []
 change_effects C.Cleared = report TrustedTimeSource ∷ emit MissingTrustedTimeSource ∷ []
 
+-- the kind of a change, whatever source it installs
+pub data Kind : Type 0 where
+  same : Kind
+  installed : Kind
+  cleared : Kind
+
+abbrev pub kind_of : SourceChange → Kind
+kind_of C.Same = same
+kind_of (C.Installed t) = installed
+kind_of C.Cleared = cleared
+
 -- setting the trusted source answers no more than that it was taken
 abbrev pub source_set_of : SourceSet → Result Clock (Unit {0})
 source_set_of r = record { state = clock_of r.rtc; answer = done; effects = change_effects r.change }

@@ -5,6 +5,7 @@ use Rattle.model.specs.declared.Refusal.TheVariants.{ConstraintError, ResourceEx
 use Rattle.model.specs.Rules as M
 use Rattle.model.specs.Rules.{demand, and_then, test_from, test_zones, test_windows}
 use Rattle.model.specs.Bytes.{read_record}
+use Rattle.record.specs.declared.SectionRead.{SectionRead}
 use Rattle.record.specs.Fronts.{entries_at}
 use Rattle.rules.specs.declared.rule.Tested.{Tested}
 use Rattle.rules.specs.Verdicts.{verdict_of}
@@ -25,6 +26,13 @@ verdict_in r = option_map (λ t. t.verdict) r
 abbrev pub moved_to : ℕ → Option Tested → ℕ
 moved_to at None = at
 moved_to at (Some t) = t.next
+
+-- where a section ends: as it was tested, and as it was read
+abbrev pub end_tested : Option Tested → Option ℕ
+end_tested r = option_map (λ t. t.next) r
+
+abbrev pub end_read : Option SectionRead → Option ℕ
+end_read r = option_map (λ x. x.next) r
 
 -- the same of a section after which nothing is left over of so many bytes
 abbrev pub whole_tested : ℕ → Option Tested → Result (Unit {0}) Refusal

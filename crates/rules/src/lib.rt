@@ -5,7 +5,8 @@ mod rule;
 mod windows;
 mod zones;
 
-ghost use Rattle.std.specs.Prelude.{◌≡◌};
+ghost use Rattle.std.specs.Prelude.{◌≡◌, ◌↔◌};
+ghost use Rattle.record.specs.Fronts.{zones_whole, windows_whole, record_at};
 ghost use Rattle.rules.specs.Verdicts.{zones_tested, windows_tested, record_tested};
 ghost use Rattle.rules.specs.Entries.{lists_tested};
 
@@ -14,18 +15,20 @@ use record::section::SectionReader;
 use record::{DSTOffsetRead, TimeZoneRead};
 use rule::{request, take};
 
-// What SetTimeZone says of a request.
-#[tactic(auto, using(crate::proofs::Whole::zones_asked))]
+// What SetTimeZone says of a request: Unreadable exactly where `record::read::time_zones` reads none.
+#[tactic(auto, using(crate::proofs::Whole::zones_asked, crate::proofs::Readers::zones_unread))]
 pub fn set_time_zone(s: &[u8], limit: usize) -> Result<(), Refusal>
-    ensures { result ≡ zones_tested limit s.now }
+    ensures verdict { result ≡ zones_tested limit s.now }
+    ensures unread { result ≡ Err Refusal.Unreadable ↔ zones_whole s.now ≡ None }
 {
     request::<TimeZoneRead>(s, limit)
 }
 
-// What SetDSTOffset says of a request.
-#[tactic(auto, using(crate::proofs::Whole::windows_asked))]
+// What SetDSTOffset says of a request: Unreadable exactly where `record::read::dst_offsets` reads none.
+#[tactic(auto, using(crate::proofs::Whole::windows_asked, crate::proofs::Readers::windows_unread))]
 pub fn set_dst_offset(s: &[u8], limit: usize) -> Result<(), Refusal>
-    ensures { result ≡ windows_tested limit s.now }
+    ensures verdict { result ≡ windows_tested limit s.now }
+    ensures unread { result ≡ Err Refusal.Unreadable ↔ windows_whole s.now ≡ None }
 {
     request::<DSTOffsetRead>(s, limit)
 }
@@ -41,10 +44,11 @@ fn lists(s: &[u8], zone_limit: usize, window_limit: usize) -> Option<Result<(), 
     reader.ended().then_some(zones.and(windows))
 }
 
-// Whether a stored record is taken; whatever the cause, one that is not is a bad record.
+// Whether a stored record is taken; whatever the cause, one that is not is a bad record, as is one that `record::read::record` cannot read.
 #[tactic(auto, using(crate::proofs::Whole::of_stored))]
 pub fn stored(s: &[u8], zone_limit: usize, window_limit: usize) -> Result<(), Refusal>
-    ensures { result ≡ record_tested zone_limit window_limit s.now }
+    ensures verdict { result ≡ record_tested zone_limit window_limit s.now }
+    ensures unread { record_at s.now ≡ None → result ≡ Err Refusal.BadRecord }
 {
     let Some(verdict) = lists(s, zone_limit, window_limit) else {
         return Err(Refusal::BadRecord);

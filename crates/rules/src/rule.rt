@@ -1,6 +1,8 @@
 // A section tested as it is read, by the rule of its kind of entry.
-ghost use Rattle.std.specs.Prelude.{◌≡◌, Bool, ℕ, Option};
-ghost use Rattle.rules.specs.Entries.{entry_tested, section_tested, verdict_in, moved_to, request_tested};
+ghost use Rattle.std.specs.Prelude.{◌≡◌, ◌↔◌, Bool, ℕ, Option};
+ghost use Rattle.record.specs.Fronts as F;
+ghost use Rattle.record.specs.Fronts.{section_at};
+ghost use Rattle.rules.specs.Entries.{entry_tested, section_tested, verdict_in, moved_to, request_tested, end_tested, end_read};
 
 use model::Refusal;
 use record::entry::Entry;
@@ -42,10 +44,11 @@ fn verdict_on<E: Ruled>(
 }
 
 // The section at `at`: each entry is read once, and the first that fails decides. Those after it are read too, since a section is unreadable
-// where one of its entries is.
-#[tactic(auto, using(crate::proofs::Walk::walking))]
+// where one of its entries is. It ends where `record::section::section_at` reads it to end.
+#[tactic(auto, using(crate::proofs::Walk::walking, crate::proofs::Ends::ending))]
 fn section<E: Ruled>(s: &[u8], at: usize, limit: usize) -> Option<Tested>
-    ensures { result ≡ section_tested E.found_at E.next_of E.keeps limit s.now at }
+    ensures tested { result ≡ section_tested E.found_at E.next_of E.keeps limit s.now at }
+    ensures read { end_tested result ≡ end_read (section_at E.read_one s.now at) }
 {
     let count = *s.get(at)? as usize;
     let mut before = None;
@@ -66,8 +69,8 @@ fn section<E: Ruled>(s: &[u8], at: usize, limit: usize) -> Option<Tested>
     })
 }
 
-// Takes the section at the reader's position: what is said of its entries. The reader goes on after it, and stays where nothing is readable.
-// In place: by a call, a refused request takes some 20 instructions more.
+// Takes the section at the reader's position: what is said of its entries. The reader goes on after it, and stays where nothing is readable,
+// as in `SectionReader::take`. In place: by a call, a refused request takes some 20 instructions more.
 #[inline(always)]
 pub(crate) fn take<E: Ruled>(
     reader: &mut SectionReader<'_>,
@@ -76,6 +79,8 @@ pub(crate) fn take<E: Ruled>(
     ensures found { result ≡ verdict_in (section_tested E.found_at E.next_of E.keeps limit reader.old.src.now reader.old.at) }
     ensures same { reader.new.src ≡ reader.old.src }
     ensures moved { reader.new.at ≡ moved_to reader.old.at (section_tested E.found_at E.next_of E.keeps limit reader.old.src.now reader.old.at) }
+    ensures unread { result ≡ None ↔ section_at E.read_one reader.old.src.now reader.old.at ≡ None }
+    ensures read { reader.new.at ≡ F.moved_to reader.old.at (section_at E.read_one reader.old.src.now reader.old.at) }
 {
     let section = section::<E>(reader.src, reader.at, limit)?;
     reader.at = section.next;

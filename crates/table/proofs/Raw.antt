@@ -1,10 +1,11 @@
 -- The bytes of a place are the bytes that its entry is written as.
-use Rattle.std.proofs.Common.{◌≡◌, ℕ, ◌+◌, ◌^◌, ◌<◌, ◌≤◌, min, true, false, List, [], ◌∷◌, ◌++◌, length, get_or, take, drop, sym, ap, subst, ◌∙◌, append_assoc, arith, length-append, length-drop, length-take-le, take-add, take-append-drop, le-leb}
-use Rattle.model.specs.Bytes.{bytes, number, bits_of, signed, zone_bytes, window_bytes}
+use Rattle.std.proofs.Common.{◌≡◌, ℕ, ◌+◌, ◌^◌, ◌<◌, ◌≤◌, min, true, false, List, [], ◌∷◌, ◌++◌, length, get_or, take, drop, sym, ap, subst, ◌∙◌, append_assoc, arith, length-append, length-drop, length-take-le, take-add, take-append-drop}
+use Rattle.model.specs.Bytes.{bytes, bits_of, signed, zone_bytes, window_bytes}
 use Rattle.model.specs.RoundTrip.{AreBytes}
 use Rattle.model.proofs.Facts.{All-left, All-right}
-use Rattle.model.proofs.Words.{number_below, bytes_number, bits_signed}
+use Rattle.model.proofs.Words.{number_below, bits_signed}
 use Rattle.word.specs.Place.{byte_at, word_at}
+use Rattle.word.proofs.Spelling.{word_there, written_back}
 use Rattle.table.specs.Layout.{mark_at, zone_at, window_at}
 use Rattle.table.specs.Held.{head_bytes}
 use Rattle.table.proofs.Requests.{are_bytes}
@@ -21,13 +22,10 @@ module _ (p : List ℕ) (b : (i : ℕ) → get_or p i 0 < 256) where
 
     -- a number in its place
     word_raw : bytes w (word_at w p i) ≡ take w (drop i p)
-    unfolding word_at
-    word_raw =
-        rw (le-leb (i + w) (length p) h) (ap (λ (k : ℕ). bytes k (number (take w (drop i p)))) (sym part_long) ∙ bytes_number (take w (drop i p)) (part_bytes w i))
+    word_raw = ap (bytes w) (word_there p i w h) ∙ written_back p i w h b
 
     word_below : word_at w p i < 256 ^ w
-    unfolding word_at
-    word_below = rw (le-leb (i + w) (length p) h) (number_below w (take w (drop i p)) (omega (arith, part_long)) (part_bytes w i))
+    word_below = rw (word_there p i w h) (number_below w (take w (drop i p)) (omega (arith, part_long)) (part_bytes w i))
 
   -- offset and start, and what stands behind them
   spelt : (more : List ℕ) → 12 ≤ length p → bytes 4 (bits_of (signed (word_at 4 p 0))) ++ (bytes 8 (word_at 8 p 4) ++ more) ≡ take 12 p ++ more

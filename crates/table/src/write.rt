@@ -5,6 +5,7 @@ ghost use Rattle.model.specs.Output.{too_short, copied_over};
 ghost use Rattle.model.specs.Store.{record_of};
 ghost use Rattle.word.specs.Place.{put};
 ghost use Rattle.record.specs.Written as W;
+ghost use Rattle.record.specs.RoundTrip.{bytes_of};
 ghost use Rattle.table.specs.Layout.{zones_in, lists_in, store_in};
 
 use crate::kind::Place;
@@ -76,11 +77,12 @@ pub fn record(table: &[u8]) -> Record
 }
 
 // The record of a table to the front of `out` where it has room, and its length; else nothing is written. Bytes that are no table have the
-// record of empty lists.
+// record of empty lists. What is copied is what `record` gives by value.
 #[tactic(auto, using(word::proofs::Writes::put_front), unfolding(model::specs::Store::record_of))]
 pub fn put(table: &[u8], out: &mut [u8]) -> Option<usize>
     ensures length { result ≡ cond (too_short (length out.old) (record_of (store_in table.now))) None (Some (length (record_of (store_in table.now)))) }
     ensures copied { out.new ≡ cond (too_short (length out.old) (record_of (store_in table.now))) out.old (copied_over (record_of (store_in table.now)) out.old) }
+    ensures recorded { let r = W.record_of (lists_in table.now) in (result ≡ cond (too_short (length out.old) (bytes_of r)) None (Some r.length)) × (out.new ≡ cond (too_short (length out.old) (bytes_of r)) out.old (copied_over (bytes_of r) out.old)) }
 {
     if out.len() < record_length(table) {
         return None;

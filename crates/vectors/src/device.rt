@@ -44,7 +44,8 @@ enum Step<'a> {
 }
 
 impl<'a> Step<'a> {
-    // The step at the front of a script: its letter, and what the letter takes.
+    // The step at the front of a script: its letter, and what the letter takes. One number that is cut off reads as 0, in the last step then;
+    // a letter of no other step is SetDSTOffset's.
     fn read(script: &mut Reader<'a>) -> Option<Step<'a>>
         ensures { IfSome result (λ step. length script.new.rest.now < length script.old.rest.now) }
     {
@@ -55,23 +56,22 @@ impl<'a> Step<'a> {
                 tick: script.u64()?,
             }),
             b'L' => Some(Step::LocalTime {
-                tick: script.u64()?,
+                tick: script.u64().unwrap_or(0),
             }),
             b'Z' => Some(Step::TimeZone(script.bytes()?)),
-            b'D' => Some(Step::DSTOffset(script.bytes()?)),
             b'R' => Some(Step::LoadLists(script.bytes()?)),
             b'T' => Some(Step::Trust {
-                fab_idx: script.u8()?,
+                fab_idx: script.u8().unwrap_or(0),
             }),
             b'N' => Some(Step::WithoutLists),
             b'C' => Some(Step::Counts),
             b'A' => Some(Step::Zone {
-                index: script.u64()? as usize,
+                index: script.u64().unwrap_or(0) as usize,
             }),
             b'B' => Some(Step::Window {
-                index: script.u64()? as usize,
+                index: script.u64().unwrap_or(0) as usize,
             }),
-            _ => None,
+            _ => Some(Step::DSTOffset(script.bytes()?)),
         }
     }
 

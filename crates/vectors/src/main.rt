@@ -18,16 +18,25 @@ use std::io::{Result, Write};
 // Standard input.
 const STDIN_FILENO: i32 = 0;
 
-// Answers one row: a letter for what is asked, then bytes in hexadecimal digits; a history has three decimal numbers before them.
-fn answer(out: &mut impl Write, row: &[u8]) -> Result<()> {
+// The word of a row at which its bytes begin: of a history, which has three numbers before them, and of any other.
+const HISTORY_BYTES: usize = 4;
+
+const BYTES: usize = 1;
+
+// Answers one row: a letter for what is asked, then bytes in hexadecimal digits; a history has three decimal numbers before them. The bytes
+// are put at the front of `memory`.
+fn answer(out: &mut impl Write, memory: &mut [u8], row: &[u8]) -> Result<()> {
     out.write_all(row)?;
     let [letter, _, ..] = row else {
         return Ok(());
     };
     write!(out, ": ")?;
-    let digits = row.rsplit(|b| *b == b' ').next().unwrap_or(&[]);
-    let mut memory = io::buffer();
-    let given = text::hex(digits, &mut memory);
+    let word = if *letter == b'h' {
+        HISTORY_BYTES
+    } else {
+        BYTES
+    };
+    let given = text::hex(text::from_word(row, word), memory);
     match letter {
         b'u' => bytes::utf8(out, given),
         b'z' => bytes::zones(out, given),
@@ -39,10 +48,12 @@ fn answer(out: &mut impl Write, row: &[u8]) -> Result<()> {
     }
 }
 
-// Answers every row; an empty one is written as it is.
+// Answers every row; an empty one is written as it is. The memory for the bytes of a row is made once: as a buffer of each row (tried) it
+// was filled with zeros twice a row, which took most of the time.
 fn rows(out: &mut impl Write, table: &[u8]) -> Result<()> {
+    let mut memory = io::buffer();
     for line in table.split_inclusive(|b| *b == b'\n') {
-        answer(out, line.strip_suffix(b"\n").unwrap_or(line))?;
+        answer(out, &mut memory, line.strip_suffix(b"\n").unwrap_or(line))?;
         writeln!(out)?;
     }
     Ok(())

@@ -1,5 +1,5 @@
 // Reads the parts of a script from its front, one after another; a number has its lowest byte first.
-ghost use Rattle.std.specs.Prelude.{◌≡◌, ◌<◌, ◌+◌, length, IfSome};
+ghost use Rattle.std.specs.Prelude.{◌≡◌, ◌<◌, ◌≤◌, ◌+◌, length, IfSome};
 
 // What is left of a script.
 #[derive(Clone, Copy)]
@@ -16,18 +16,22 @@ impl<'a> Reader<'a> {
         self.rest.is_empty()
     }
 
-    // The next N bytes.
+    // The next N bytes; where fewer are left, nothing is left after it.
     fn take<const N: usize>(&mut self) -> Option<[u8; N]>
-        ensures { IfSome result (λ part. length self.new.rest.now + N ≡ length self.old.rest.now) }
+        ensures taken { IfSome result (λ part. length self.new.rest.now + N ≡ length self.old.rest.now) }
+        ensures shorter { length self.new.rest.now ≤ length self.old.rest.now }
     {
-        let (part, rest) = self.rest.split_first_chunk::<N>()?;
+        let left = self.rest;
+        self.rest = &[];
+        let (part, rest) = left.split_first_chunk::<N>()?;
         self.rest = rest;
         Some(*part)
     }
 
     // Numbers, by their width: std has a `from_le_bytes` of each.
     pub(crate) fn u8(&mut self) -> Option<u8>
-        ensures { IfSome result (λ n. length self.new.rest.now + 1 ≡ length self.old.rest.now) }
+        ensures taken { IfSome result (λ n. length self.new.rest.now + 1 ≡ length self.old.rest.now) }
+        ensures shorter { length self.new.rest.now ≤ length self.old.rest.now }
     {
         self.take().map(u8::from_le_bytes)
     }
@@ -45,7 +49,8 @@ impl<'a> Reader<'a> {
     }
 
     pub(crate) fn u64(&mut self) -> Option<u64>
-        ensures { IfSome result (λ n. length self.new.rest.now + 8 ≡ length self.old.rest.now) }
+        ensures taken { IfSome result (λ n. length self.new.rest.now + 8 ≡ length self.old.rest.now) }
+        ensures shorter { length self.new.rest.now ≤ length self.old.rest.now }
     {
         self.take().map(u64::from_le_bytes)
     }

@@ -19,13 +19,12 @@ struct Asked {
 
 impl Asked {
     // The three numbers behind the letter of a row.
-    fn read(row: &[u8]) -> Option<Asked> {
-        let mut words = row.split(|b| *b == b' ').skip(1);
-        Some(Asked {
-            zone_limit: text::number(words.next()?)? as usize,
-            window_limit: text::number(words.next()?)? as usize,
-            start: text::number(words.next()?)?,
-        })
+    fn read(row: &[u8]) -> Asked {
+        Asked {
+            zone_limit: text::number(row, 1) as usize,
+            window_limit: text::number(row, 2) as usize,
+            start: text::number(row, 3),
+        }
     }
 }
 
@@ -79,12 +78,9 @@ fn run(asked: Asked, history: &[u8], moments: &mut [u8], steps: &mut u64) -> u64
 
 // Runs a history and writes the walk: zone limit, window limit, starting moment, and the calls in hexadecimal digits.
 pub(crate) fn replayed(out: &mut impl Write, row: &[u8], history: &[u8]) -> Result<()> {
-    let Some(asked) = Asked::read(row) else {
-        return write!(out, "unreadable");
-    };
     let mut moments = [0u8; MOMENTS_MAX];
     let mut steps: u64 = 0;
-    match run(asked, history, &mut moments, &mut steps) {
+    match run(Asked::read(row), history, &mut moments, &mut steps) {
         0 => walked(out, &moments, steps),
         refusal => write!(out, "refused {refusal}"),
     }

@@ -1,5 +1,5 @@
 // Reads the words of a row: hexadecimal digits and decimal numbers.
-ghost use Rattle.std.specs.Prelude.{◌/◌, ◌≡◌, ◌≤◌, length, min};
+ghost use Rattle.std.specs.Prelude.{◌/◌, ◌<◌, ◌≡◌, ◌≤◌, length, min};
 
 // The value of a hexadecimal digit, and 0 for any other byte. Not by `to_digit`, which takes capital letters too.
 fn digit(b: u8) -> u8
@@ -24,7 +24,20 @@ pub(crate) fn hex<'a>(s: &[u8], out: &'a mut [u8]) -> &'a [u8]
     &out[..n]
 }
 
-// A word as a decimal number.
-pub(crate) fn number(word: &[u8]) -> Option<u64> {
-    str::from_utf8(word).ok()?.parse().ok()
+// A row from word k on, to its end; the first word is 0. Nothing where the row has no such word.
+pub(crate) fn from_word(row: &[u8], k: usize) -> &[u8]
+    requires { k < 10 }
+{
+    row.splitn(k + 1, |b| *b == b' ').nth(k).unwrap_or(&[])
+}
+
+// A number with one more digit, held at the largest.
+fn with_digit(n: u64, b: u8) -> u64 {
+    n.saturating_mul(10).saturating_add(u64::from(digit(b)))
+}
+
+// Word k of a row as a decimal number; 0 where the row has no such word. A byte that is no digit is read as `digit` reads it.
+pub(crate) fn number(row: &[u8], k: usize) -> u64 {
+    let word = row.split(|b| *b == b' ').nth(k).unwrap_or(&[]);
+    word.iter().fold(0, |n, b| with_digit(n, *b))
 }

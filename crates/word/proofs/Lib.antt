@@ -4,5 +4,6 @@ pub mod Endian
 pub mod Parts
 pub mod Places
 pub mod Answers
+pub mod Spelling
 pub mod Frame
 pub mod Writes

@@ -1,12 +1,12 @@
 -- A part of some bytes: cut out, read as a number, and written.
-use Rattle.std.proofs.Common.{Bool, true, false, cond, List, ◌++◌, ◌≡◌, refl, sym, ap, ◌∙◌, ℕ, zero, suc, ◌+◌, ◌*◌, ◌<◌, ◌≤◌, length, take, drop, slice_index, arith, Option, None, Some, Bor, append_assoc, drop-drop, take-append-drop, le-leb, leb-true, MatchOption, option_map, option_copied, unwrap_or, length-drop, length-take-le}
+use Rattle.std.proofs.Common.{Bool, true, false, cond, List, ◌++◌, ◌≡◌, refl, sym, ap, ◌∙◌, ℕ, zero, suc, ◌+◌, ◌*◌, ◌<◌, ◌≤◌, pos, length, take, drop, slice_index, arith, Option, None, Some, Bor, append_assoc, drop-drop, take-append-drop, le-leb, leb-true, MatchOption, option_map, option_copied, unwrap_or, length-drop, length-take-le}
 use Rattle.std.proofs.lemmas.Bool.{lt-leb}
 use Rattle.std.specs.Array.{IsFirstChunk}
 use Rattle.std.specs.Simd.{first_chunks}
 use Rattle.std.specs.Int.{byte_worth, bytes_low_first, sum_through}
-use Rattle.model.specs.Bytes.{bytes, all_bytes, number}
+use Rattle.model.specs.Bytes.{bytes, all_bytes, number, signed}
 use Rattle.model.proofs.Words.{length_bytes}
-use Rattle.word.specs.Place.{fits_at, part_at, number_at, word_at, placed}
+use Rattle.word.specs.Place.{fits_at, part_at, number_at, signed_at, word_at, placed}
 use Rattle.word.proofs.Endian.{from_le, to_le}
 
 -- ## Cut out
@@ -59,6 +59,15 @@ module _ (w : ℕ) (s : List ℕ) (at : ℕ) where
 
   pub unread : {o : Option (List ℕ)} {r : Option ℕ} → o ≡ part_at w s at → o ≡ None → r ≡ None → r ≡ number_at w s at
   unread p e q = q ∙ sym (number_of_part ∙ ap (option_map number) (sym p ∙ e))
+
+-- the offset, or 0
+pub offset_of_signed : (s : List ℕ) (at : ℕ) → signed (word_at 4 s at) ≡ unwrap_or (signed_at s at) (pos 0)
+unfolding word_at number_at signed
+offset_of_signed s at = go (fits_at s at 4)
+  where
+    go : (b : Bool) → signed (cond b (number (take 4 (drop at s))) 0) ≡ unwrap_or (option_map signed (cond b (Some (number (take 4 (drop at s)))) None)) (pos 0)
+    go true = refl
+    go false = refl
 
 -- a part that was read, the lowest byte first
 pub read : (k : ℕ) (s : List ℕ) (at : ℕ) {o : Option (List ℕ)} (bs : List ℕ) {v : ℕ} → o ≡ part_at (suc k) s at → o ≡ Some bs

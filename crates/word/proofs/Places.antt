@@ -1,8 +1,8 @@
 -- What stands at a place where the bytes fit, and where they do not.
-use Rattle.std.proofs.Common.{None, Some, Bool, true, false, cond, List, ◌≡◌, refl, sym, ◌∙◌, ℕ, ◌+◌, ◌≤◌, ◌<◌, arith, le-leb, leb-true, length, take, drop, length-drop, drop-drop}
+use Rattle.std.proofs.Common.{None, Some, Bool, true, false, cond, List, ◌≡◌, refl, sym, ◌∙◌, ℕ, ◌+◌, ◌≤◌, ◌<◌, arith, le-leb, leb-true, length, take, drop, length-drop, length-take-le, drop-drop}
 use Rattle.std.proofs.lemmas.Bool.{lt-leb}
 use Rattle.model.specs.Bytes.{take_bytes, number, well_formed}
-use Rattle.word.specs.Place.{fits_at, number_at, text_at, put, placed}
+use Rattle.word.specs.Place.{fits_at, number_at, text_at, put, placed, copied}
 
 module _ (w : ℕ) (s : List ℕ) (at : ℕ) where
   -- where they fit, the bytes at a place are what a reader takes off the bytes from there on
@@ -45,3 +45,22 @@ text_there n s at t = go (fits_at s at n) t
 pub placed_there : (s : List ℕ) (at : ℕ) (bs : List ℕ) → at + length bs ≤ length s → placed s at bs ≡ put s at bs
 unfolding placed
 placed_there s at bs h = rw (le-leb (at + length bs) (length s) h)
+
+-- ## A part copied
+
+-- where both have the bytes
+pub copied_there : (s : List ℕ) (at : ℕ) (t : List ℕ) (from n : ℕ) → from + n ≤ length t → at + n ≤ length s → copied s at t from n ≡ put s at (take n (drop from t))
+unfolding copied
+copied_there s at t from n h k = rw (le-leb (from + n) (length t) h, le-leb (at + n) (length s) k)
+
+-- where the bytes are there, they are placed
+pub copied_placed : (s : List ℕ) (at : ℕ) (t : List ℕ) (from n : ℕ) → from + n ≤ length t → copied s at t from n ≡ placed s at (take n (drop from t))
+unfolding copied placed
+copied_placed s at t from n h =
+    let l : length (take n (drop from t)) ≡ n = length-take-le n (drop from t) (omega (arith, length-drop from t)) in
+    rw (le-leb (from + n) (length t) h, l)
+
+-- where they are not, nothing is
+pub copied_few : (s : List ℕ) (at : ℕ) (t : List ℕ) (from n : ℕ) → length t < from + n → copied s at t from n ≡ s
+unfolding copied
+copied_few s at t from n h = rw (lt-leb (from + n) (length t) h)

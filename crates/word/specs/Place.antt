@@ -1,6 +1,6 @@
 -- What stands at a place of some bytes, and what they are after a number is written there.
-use Rattle.std.specs.Prelude.{Bool, false, cond, List, ◌++◌, ℕ, ◌+◌, leb, ℤ, length, take, drop, get_or, Option, None, Some, option_map}
-use Rattle.model.specs.Bytes.{number, signed, well_formed}
+use Rattle.std.specs.Prelude.{Bool, false, ◌&&◌, cond, List, ◌++◌, ℕ, ◌+◌, ◌*◌, leb, ℤ, length, take, drop, get_or, Option, None, Some, option_map}
+use Rattle.model.specs.Bytes.{number, bytes, all_bytes, signed, well_formed}
 
 -- n bytes stand at `at`
 abbrev pub fits_at : List ℕ → ℕ → ℕ → Bool
@@ -25,6 +25,14 @@ put s at bs = take at s ++ bs ++ drop (at + length bs) s
 -- the same where they fit, else s as it was
 unfoldable pub placed : List ℕ → ℕ → List ℕ → List ℕ
 placed s at bs = cond (fits_at s at (length bs)) (put s at bs) s
+
+-- s with the n bytes of t from `from` on copied to `at`, where both have so many; else s as it was
+unfoldable pub copied : List ℕ → ℕ → List ℕ → ℕ → ℕ → List ℕ
+copied s at t from n = cond (fits_at t from n && fits_at s at n) (put s at (take n (drop from t))) s
+
+-- s with the first n numbers at its front, 8 bytes each, where there are so many and all have room; else s as it was
+unfoldable pub with_numbers : List ℕ → List ℕ → ℕ → List ℕ
+with_numbers s ns n = cond (leb n (length ns) && leb (8 * n) (length s)) (put s 0 (all_bytes (λ m. bytes 8 m) (take n ns))) s
 
 -- the byte at `at`; 0 where there is none
 abbrev pub byte_at : List ℕ → ℕ → ℕ

@@ -5,9 +5,9 @@
 pub mod or_zero;
 pub mod text;
 
-ghost use Rattle.std.specs.Prelude.{◌≡◌, ◌*◌, ◌≤◌, length};
+ghost use Rattle.std.specs.Prelude.{◌≡◌, ◌&&◌, ◌*◌, ◌≤◌, leb, length};
 ghost use Rattle.model.specs.Bytes.{bytes, all_bytes, bits_of};
-ghost use Rattle.word.specs.Place.{fits_at, part_at, number_at, signed_at, put, placed};
+ghost use Rattle.word.specs.Place.{fits_at, part_at, number_at, signed_at, put, placed, copied, with_numbers};
 
 // How many bytes a 64-bit number has.
 pub const WORD: usize = 8;
@@ -85,6 +85,19 @@ pub fn put(out: &mut [u8], at: usize, part: &[u8]) -> bool
     fits
 }
 
+// Copies n bytes of s from `from` on to `at`, where both slices have so many, else nothing; answers whether they do. By `in_bounds`: where the
+// part comes out of `get` (tried) the compiler forgets what it knows of its length, and a listed entry takes more than the Rust's.
+#[tactic(auto, using(crate::proofs::Places::copied_placed, crate::proofs::Places::copied_few))]
+pub fn copy(out: &mut [u8], at: usize, s: &[u8], from: usize, n: usize) -> bool
+    ensures there { result ≡ fits_at s.now from n && fits_at out.old at n }
+    ensures copied { out.new ≡ copied out.old at s.now from n }
+{
+    if !in_bounds(s, from, n) {
+        return false;
+    }
+    put(out, at, &s[from..from + n])
+}
+
 // The 64-bit number at `at`.
 pub fn u64_at(s: &[u8], at: usize) -> Option<u64>
     ensures { result ≡ number_at 8 s.now at }
@@ -146,14 +159,18 @@ fn put_numbers(out: &mut [u8], numbers: &[u64])
     }
 }
 
-// Writes numbers at the front, 8 bytes each, where they fit; answers whether they do.
-#[tactic(auto, using(crate::proofs::Writes::length_numbers), unfolding(crate::specs::Place::placed))]
-pub fn put_u64s(out: &mut [u8], numbers: &[u64]) -> bool
-    ensures { (result ≡ fits_at out.old 0 (8 * length numbers.now)) × (out.new ≡ placed out.old 0 (all_bytes (λ m. bytes 8 m) numbers.now)) }
+// Writes the first n numbers at the front, 8 bytes each, where there are so many and all have room, else nothing; answers whether they do.
+#[tactic(auto, using(crate::proofs::Writes::numbers_there, crate::proofs::Writes::numbers_few, crate::proofs::Writes::numbers_short))]
+pub fn put_u64s(out: &mut [u8], numbers: &[u64], n: usize) -> bool
+    ensures fits { result ≡ leb n (length numbers.now) && fits_at out.old 0 (8 * n) }
+    ensures written { out.new ≡ with_numbers out.old numbers.now n }
 {
-    let fits = in_bounds(out, 0, WORD * numbers.len());
+    let Some(asked) = numbers.get(..n) else {
+        return false;
+    };
+    let fits = in_bounds(out, 0, WORD * asked.len());
     if fits {
-        put_numbers(out, numbers);
+        put_numbers(out, asked);
     }
     fits
 }

@@ -37,11 +37,11 @@ pub fn u64_at(s: &[u8], at: usize) -> u64
 }
 
 // The offset at `at`, or 0.
-#[tactic(auto, using(crate::proofs::Endian::to_signed))]
+#[tactic(auto, using(crate::proofs::Parts::offset_of_signed))]
 pub fn i32_at(s: &[u8], at: usize) -> i32
     ensures { result ≡ signed (word_at 4 s.now at) }
 {
-    u32_at(s, at).cast_signed()
+    crate::i32_at(s, at).unwrap_or(0)
 }
 
 // Writes a byte at `at`, where it fits; answers whether it does.

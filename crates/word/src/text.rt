@@ -57,9 +57,9 @@ fn characters(s: &[u8]) -> bool
     true
 }
 
-// Whether s is well-formed UTF-8; most names are plain.
+// Whether s is well-formed UTF-8; most names are plain. By `common_steps` too, so that a body that tests a part of s is judged by the part.
 #[inline(always)]
-#[tactic(auto, using(crate::proofs::Rows::ascii_text))]
+#[tactic(auto, using(crate::proofs::Rows::ascii_text, std::proofs::lemmas::Grind::common_steps))]
 pub fn utf8(s: &[u8]) -> bool
     ensures { result ≡ well_formed s.now }
 {

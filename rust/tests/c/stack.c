@@ -133,8 +133,11 @@ static void expect(int holds, const char *what)
 /* 64 bytes, characters of one to four bytes */
 #define LONGEST "Zone/\xC3\x84\xC3\x96\xE2\x82\xAC\xF0\x9F\x95\x90/aaaaaaaaaaaaaaaaaaaaaaaaaaaaaaaaaaaaaaaaaaaaaaa"
 
-static uint8_t zones[640], plain_zones[128], late_zones[640], more_zones[768], windows[400], open_windows[400], bad_windows[400],
-    more_windows[400], record[TIMESYNC_RECORD_MAX], bad_record[TIMESYNC_RECORD_MAX];
+/* 64 bytes, the last character alone is not ASCII */
+#define LAST_WIDE "aaaaaaaaaaaaaaaaaaaaaaaaaaaaaaaaaaaaaaaaaaaaaaaaaaaaaaaaaaaaaa\xC3\x84"
+
+static uint8_t zones[640], wide_zones[640], plain_zones[128], late_zones[640], more_zones[768], windows[400], open_windows[400],
+    bad_windows[400], more_windows[400], record[TIMESYNC_RECORD_MAX], wide_record[TIMESYNC_RECORD_MAX], bad_record[TIMESYNC_RECORD_MAX];
 static size_t zones_len, plain_len, late_len, more_zones_len, windows_len, open_len, bad_len, more_windows_len, record_len;
 
 /* So many zones, a day apart; the last one starts as given, or in its turn where that is 0. */
@@ -164,6 +167,7 @@ static void make_lists(void)
 {
     expect(strlen(LONGEST) == TIMESYNC_NAME_MAX, "the longest name has another length");
     zones_len = make_zones(zones, 8, LONGEST, 0);
+    expect(make_zones(wide_zones, 8, LAST_WIDE, 0) == zones_len, "a name of as many bytes makes another length");
     plain_len = make_zones(plain_zones, 8, NULL, 0);
     late_len = make_zones(late_zones, 8, LONGEST, 1);
     more_zones_len = make_zones(more_zones, 9, LONGEST, 0);
@@ -173,6 +177,8 @@ static void make_lists(void)
     more_windows_len = make_windows(more_windows, 17, 0, 0);
     memcpy(record, zones, zones_len);
     memcpy(record + zones_len, windows, windows_len);
+    memcpy(wide_record, wide_zones, zones_len);
+    memcpy(wide_record + zones_len, windows, windows_len);
     memcpy(bad_record, zones, zones_len);
     memcpy(bad_record + zones_len, bad_windows, bad_len);
     record_len = zones_len + windows_len;
@@ -222,6 +228,7 @@ static void commands(void)
     ANY(set_trusted_time_source, 0, IMAGE, 1, 0, 2, 3);
     ANY(set_trusted_time_source, 4, IMAGE, 0, 0, 2, 3);
     RECORDS(set_time_zone, 0, IMAGE, P(zones), zones_len, P(out), sizeof out, P(&a));
+    RECORDS(set_time_zone, 0, IMAGE, P(wide_zones), zones_len, P(out), sizeof out, P(&a));
     RECORDS(set_time_zone, 0, IMAGE, P(plain_zones), plain_len, P(out), sizeof out, P(&a));
     RECORDS(set_time_zone, 1, IMAGE, P(zones), zones_len - 1, P(out), sizeof out, P(&a));
     RECORDS(set_time_zone, 2, IMAGE, P(late_zones), late_len, P(out), sizeof out, P(&a));
@@ -238,6 +245,7 @@ static void commands(void)
 static void loads_and_settings(void)
 {
     ANY(load_lists, 0, IMAGE, 1, P(record), record_len);
+    ANY(load_lists, 0, IMAGE, 1, P(wide_record), record_len);
     ANY(load_lists, 0, IMAGE, 0, P(record), record_len);
     ANY(load_lists, 7, IMAGE, 1, P(record), record_len - 1);
     ANY(load_lists, 7, IMAGE, 1, P(bad_record), record_len);
@@ -328,7 +336,7 @@ static size_t make_history(uint8_t *to)
         uint8_t kind;
         const uint8_t *bytes;
         size_t length;
-    } calls[] = {{0, zones, zones_len},     {1, windows, windows_len}, {1, bad_windows, bad_len}, {0, late_zones, late_len},
+    } calls[] = {{0, wide_zones, zones_len}, {1, windows, windows_len}, {1, bad_windows, bad_len}, {0, late_zones, late_len},
                  {2, record, record_len},   {2, record, 5},            {0, zones, zones_len},     {1, windows, windows_len},
                  {2, record, record_len}};
     size_t at = 0;

@@ -6,7 +6,7 @@ use Rattle.std.proofs.lemmas.Result.{err_from_is_err_and}
 use Rattle.model.specs.Lookups.{ZoneNow}
 use Rattle.model.specs.Output.{copied_over, moments_bytes, name_or}
 use Rattle.lookups.proofs.Owned.{walk_by_value}
-use Rattle.word.proofs.Writes.{length_numbers}
+use Rattle.word.proofs.Writes.{length_numbers, all_placed}
 use Rattle.replay.proofs.Written.{walked_moments, moments_long, zone_told, put_over}
 use Rattle.replay.proofs.Claimed.{room_none, room_some, no_moments_room, no_name_room, no_record_room, all_told}
 use Rattle.replay.proofs.answered.Goals as goal
@@ -48,10 +48,11 @@ returns c =
     let offset = back ∙ ap (λ (x : ZoneNow). x.offset) z in
     let length_told = named ∙ ap (option_map length) zone in
     let fits = room_some _ _ _ (sym c.put.ensures.length ∙ c.in_ok-stored.ensures.ok_part) in
+    let placed = all_placed a.moments.now c.walked-walked.result.now c.put_u64s.ensures.fits c.put_u64s.ensures.written in
     rw (all_told a.table.now a.start a.at (length a.moments.now) (length a.name.now) (length a.out.now) (omega arith) (omega (arith, ap length told)) fits.0)
     (record {
       value = cc;
-      walked = put_over a.moments.now _ c.put_u64s.ensures.1 (omega (arith, length_numbers c.walked-walked.result.now)) ∙ ap (λ (ms : List ℕ). copied_over (moments_bytes ms) a.moments.now) moments;
+      walked = put_over a.moments.now _ placed.1 (omega (arith, length_numbers c.walked-walked.result.now)) ∙ ap (λ (ms : List ℕ). copied_over (moments_bytes ms) a.moments.now) moments;
       named = put_over a.name.now _ c.put-2.ensures.1 c.if-name-zone_name.false ∙ ap (λ (n : List ℕ). copied_over n a.name.now) told;
       stored = c.put.ensures.copied ∙ rw fits.0;
     })

@@ -4,4 +4,4 @@ use Rattle.table.proofs.Requests.{windows_held}
 use Rattle.table.proofs.set_dst_offset.Goals as goal
 
 pub put_windows-requires : goal.put_windows-requires
-put_windows-requires c = windows_held c.args.request.now _ c.type_inv.request (sym c.set_dst_offset.ensures ∙ c.in_default.is)
+put_windows-requires c = windows_held c.args.request.now _ c.type_inv.request (sym c.set_dst_offset.ensures.verdict ∙ c.in_default.is)
