@@ -1,8 +1,8 @@
 -- What is looked up in the places of the entries is what is looked up in the lists.
-use Rattle.std.proofs.Common.{◌≡◌, refl, sym, ap, ◌∙◌, ℕ, suc, ◌≤◌, Bool, true, false, cond, ◌||◌, eqb, ℤ, List, [], ◌∷◌, ◌++◌, length, map, reverse, fold, Option, Bor, MatchOption, option_map, unwrap_or, arith, ne_eqb, ltb, eqb-true, eq-eqb, ltb-true, ltb-false, ◌+◌, min, take, drop, not, ◌==◌, is_some, IfSome, None, Some, slice_get}
+use Rattle.std.proofs.Common.{◌≡◌, refl, sym, ap, ◌∙◌, ℕ, suc, ◌≤◌, ◌<◌, ◌⊎◌, inl, inr, slice_index_or, Bool, true, false, cond, ◌||◌, eqb, ℤ, List, [], ◌∷◌, ◌++◌, length, map, reverse, fold, Option, Bor, MatchOption, option_map, unwrap_or, arith, ne_eqb, ltb, eqb-true, eq-eqb, ltb-true, ltb-false, ◌+◌, min, take, drop, not, ◌==◌, is_some, IfSome, None, Some, slice_get}
 use Rattle.std.proofs.lemmas.List.{reverse-append}
 use Rattle.std.proofs.lemmas.List.Folds.{find-append, list_any-append}
-use Rattle.std.proofs.lemmas.Option.{slice_get_past, slice_get_read}
+use Rattle.std.proofs.lemmas.Option.{slice_get-get_or, slice_get_past, slice_get_read}
 use Rattle.std.specs.List.{find, list_any}
 use Rattle.std.specs.Bool.{then_some}
 use Rattle.std.specs.Slice.{IsItemAt}
@@ -16,7 +16,6 @@ use Rattle.table.specs.Layout.{zone_place, window_place, zone_count, window_coun
 use Rattle.table.proofs.Counts.{zone_stands, window_stands}
 use Rattle.table.proofs.Places.{byte_in, lists_by_places, zone_in_place, window_in_place}
 use Rattle.record.specs.declared.NamePlace.{NamePlace}
-use Rattle.lookups.specs.declared.DSTOffsetEntry.{DSTOffsetEntry}
 use Rattle.lookups.specs.declared.ZoneShown.{ZoneShown}
 use Rattle.lookups.specs.Shown.{blank_shown, window_shown, window_listed_in, zone_there, zone_listed_in}
 use Rattle.lookups.specs.Transitions.{sooner, soonest}
@@ -171,11 +170,18 @@ window_listed_is s i =
     rw t (ap (λ w. Some (window_shown w)) (sym (window_in_place s (window_place i) (omega (arith, h.0, h.1))))))
     (λ t. rw t refl)
 
-pub window_read : (s : List ℕ) (ps : List (List ℕ)) (i : ℕ) (r : Option (Bor (List ℕ))) (o : Option DSTOffsetEntry) → ps ≡ window_places s → IsItemAt ps i r
-    → MatchOption r (o ≡ None) (λ x. IsSomeAnd o (λ w. w ≡ window_shown (window_of x.now))) → o ≡ window_listed_in s i
-window_read s ps i r o e k m =
-    made (λ y. window_shown (window_of y.now)) (λ x w. w ≡ window_shown (window_of x.now)) r o m (λ x w h. h)
-    ∙ item (λ p. window_shown (window_of p)) ps (window_places s) i r e k ∙ window_listed_is s i
+-- is there at an index below their number, and nowhere else; the first part is what `grind` looks for
+pub window_listed : (s : List ℕ) (i : ℕ) → (window_listed_in s i ≡ window_listed_in s i)
+    × (((i < length (window_places s)) × (window_listed_in s i ≡ Some (window_shown (window_of (slice_index_or (window_places s) i [])))))
+    ⊎ ((length (window_places s) ≤ i) × (window_listed_in s i ≡ None)))
+window_listed s i =
+    let ps = window_places s in
+    let is = λ (o : Option (List ℕ)) (e : slice_get ps i ≡ o). sym (window_listed_is s i) ∙ ap (option_map (λ p. window_shown (window_of p))) e in (
+      refl,
+      by_test (ltb i (length ps))
+          (λ t. let h = ltb-true i (length ps) t in inl (h, is (Some (slice_index_or ps i [])) (slice_get-get_or ps i [] h)))
+          (λ t. let h = ltb-false i (length ps) t in inr (h, is None (slice_get_past ps i h))),
+    )
 
 -- the zone with an index, by its place
 abbrev pub name_made : ℕ → ℕ → ℕ → Option NamePlace

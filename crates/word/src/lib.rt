@@ -86,7 +86,7 @@ pub fn put(out: &mut [u8], at: usize, part: &[u8]) -> bool
 }
 
 // Copies n bytes of s from `from` on to `at`, where both slices have so many, else nothing; answers whether they do. By `in_bounds`: where the
-// part comes out of `get` (tried) the compiler forgets what it knows of its length, and a listed entry takes more than the Rust's.
+// part comes out of `get` (tried) the compiler forgets what it knows of its length.
 #[tactic(auto, using(crate::proofs::Places::copied_placed, crate::proofs::Places::copied_few))]
 pub fn copy(out: &mut [u8], at: usize, s: &[u8], from: usize, n: usize) -> bool
     ensures there { result ≡ fits_at s.now from n && fits_at out.old at n }
