@@ -51,7 +51,7 @@ returns c =
     let placed = all_placed a.moments.now c.walked-walked.result.now c.put_u64s.ensures.fits c.put_u64s.ensures.written in
     rw (all_told a.table.now a.start a.at (length a.moments.now) (length a.name.now) (length a.out.now) (omega arith) (omega (arith, ap length told)) fits.0)
     (record {
-      value = cc;
+      value = grind arith;
       walked = put_over a.moments.now _ placed.1 (omega (arith, length_numbers c.walked-walked.result.now)) ∙ ap (λ (ms : List ℕ). copied_over (moments_bytes ms) a.moments.now) moments;
       named = put_over a.name.now _ c.put-2.ensures.1 c.if-name-zone_name.false ∙ ap (λ (n : List ℕ). copied_over n a.name.now) told;
       stored = c.put.ensures.copied ∙ rw fits.0;

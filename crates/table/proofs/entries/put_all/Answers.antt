@@ -16,7 +16,7 @@ pub overflow_add-at : goal.overflow_add-at
 overflow_add-at g c = omega (arith, (next c.loop-i.invariant c.loop-i-test.true).whole, c.length_at-m.ensures)
 
 pub loop-i-preserved : goal.loop-i-preserved
-loop-i-preserved g c = one_copied c.loop-i.invariant c.loop-i-test.true _ _ c.length_at-m.ensures c.at.ensures c.put.ensures.1
+loop-i-preserved g c = one_copied c.loop-i.invariant c.loop-i-test.true _ _ c.length_at-m.ensures c.at.ensures (grind arith)
 
 pub returns : goal.returns
 returns g c = all_copied c.loop-i.invariant c.loop-i-test.false

@@ -8,4 +8,4 @@ pub returns-then-out-record_length-clause-recorded : goal.returns-then-out-recor
 returns-then-out-record_length-clause-recorded c = no_room (lists_in c.args.table.now) c.args.out.now (omega arith)
 
 pub returns-clause-recorded : goal.returns-clause-recorded
-returns-clause-recorded c = put_is (lists_in c.args.table.now) c.args.out.now (omega arith) c.put_record.ensures.1 c.put_record.ensures.0
+returns-clause-recorded c = put_is (lists_in c.args.table.now) c.args.out.now (omega arith) (grind arith) c.put_record.ensures.0
