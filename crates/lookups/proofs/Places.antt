@@ -1,8 +1,8 @@
 -- What is looked up in the places of the entries is what is looked up in the lists.
-use Rattle.std.proofs.Common.{◌≡◌, refl, sym, ap, ◌∙◌, ℕ, suc, ◌≤◌, ◌<◌, ◌⊎◌, inl, inr, slice_index_or, Bool, true, false, cond, ◌||◌, eqb, ℤ, List, [], ◌∷◌, ◌++◌, length, map, reverse, fold, Option, Bor, MatchOption, option_map, unwrap_or, arith, ne_eqb, ltb, eqb-true, eq-eqb, ltb-true, ltb-false, ◌+◌, min, take, drop, not, ◌==◌, is_some, IfSome, None, Some, slice_get}
+use Rattle.std.proofs.Common.{◌≡◌, refl, sym, ap, ◌∙◌, ℕ, suc, ◌≤◌, Bool, true, false, cond, ◌||◌, eqb, ℤ, List, [], ◌∷◌, ◌++◌, length, map, reverse, fold, Option, Bor, MatchOption, option_map, unwrap_or, arith, ne_eqb, ltb, eqb-true, eq-eqb, ltb-true, ltb-false, ◌+◌, min, take, drop, not, ◌==◌, is_some, IfSome, None, Some, slice_get}
 use Rattle.std.proofs.lemmas.List.{reverse-append}
 use Rattle.std.proofs.lemmas.List.Folds.{find-append, list_any-append}
-use Rattle.std.proofs.lemmas.Option.{slice_get-get_or, slice_get_past, slice_get_read}
+use Rattle.std.proofs.lemmas.Option.{slice_get_past, slice_get_read}
 use Rattle.std.specs.List.{find, list_any}
 use Rattle.std.specs.Bool.{then_some}
 use Rattle.std.specs.Slice.{IsItemAt}
@@ -157,31 +157,18 @@ item : {Y : Type 0} (h : List ℕ → Y) (ps qs : List (List ℕ)) (i : ℕ) (r 
 item h ps qs i None e k = ap (option_map h) (sym (slice_get_past ps i k.3) ∙ ap (λ l. slice_get l i) e)
 item h ps qs i (Some y) e k = ap (option_map h) (sym (slice_get_read ps (length ps) i y.now refl k.3.0 k.1) ∙ ap (λ l. slice_get l i) e)
 
--- the window at an index
-window_listed_is : (s : List ℕ) (i : ℕ) → option_map (λ p. window_shown (window_of p)) (slice_get (window_places s) i) ≡ window_listed_in s i
+-- the window at an index is what is shown of its place, if it has one
+pub window_listed : (s : List ℕ) (i : ℕ) → window_listed_in s i ≡ option_map (λ p. window_shown (window_of p)) (slice_get (window_places s) i)
 unfolding window_places window_listed_in
-window_listed_is s i =
+window_listed s i =
     let n = window_count s in
     let p = λ (j : ℕ). take 24 (drop (window_place j) s) in
-    ap (option_map (λ q. window_shown (window_of q))) (listed p n i)
+    sym (ap (option_map (λ q. window_shown (window_of q))) (listed p n i)
     ∙ by_test (ltb i n)
     (λ t.
     let h = window_stands s i (ltb-true i n t) in
     rw t (ap (λ w. Some (window_shown w)) (sym (window_in_place s (window_place i) (omega (arith, h.0, h.1))))))
-    (λ t. rw t refl)
-
--- is there at an index below their number, and nowhere else; the first part is what `grind` looks for
-pub window_listed : (s : List ℕ) (i : ℕ) → (window_listed_in s i ≡ window_listed_in s i)
-    × (((i < length (window_places s)) × (window_listed_in s i ≡ Some (window_shown (window_of (slice_index_or (window_places s) i [])))))
-    ⊎ ((length (window_places s) ≤ i) × (window_listed_in s i ≡ None)))
-window_listed s i =
-    let ps = window_places s in
-    let is = λ (o : Option (List ℕ)) (e : slice_get ps i ≡ o). sym (window_listed_is s i) ∙ ap (option_map (λ p. window_shown (window_of p))) e in (
-      refl,
-      by_test (ltb i (length ps))
-          (λ t. let h = ltb-true i (length ps) t in inl (h, is (Some (slice_index_or ps i [])) (slice_get-get_or ps i [] h)))
-          (λ t. let h = ltb-false i (length ps) t in inr (h, is None (slice_get_past ps i h))),
-    )
+    (λ t. rw t refl))
 
 -- the zone with an index, by its place
 abbrev pub name_made : ℕ → ℕ → ℕ → Option NamePlace

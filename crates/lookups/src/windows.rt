@@ -81,7 +81,7 @@ pub fn dst_table_empty(table: &[u8]) -> bool
 }
 
 // The window at an index.
-#[tactic(auto, using(crate::proofs::Places::window_listed))]
+#[tactic(auto, using(crate::proofs::Places::window_listed, std::proofs::lemmas::Option::slice_get_cases))]
 pub fn dst_offset_at(table: &[u8], i: usize) -> Option<DSTOffsetEntry>
     ensures { result ≡ window_listed_in table.now i }
 {
