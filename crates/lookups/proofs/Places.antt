@@ -16,6 +16,7 @@ use Rattle.table.specs.Layout.{zone_place, window_place, zone_count, window_coun
 use Rattle.table.proofs.Counts.{zone_stands, window_stands}
 use Rattle.table.proofs.Places.{byte_in, lists_by_places, zone_in_place, window_in_place}
 use Rattle.record.specs.declared.NamePlace.{NamePlace}
+use Rattle.lookups.specs.declared.DSTOffsetEntry.{DSTOffsetEntry}
 use Rattle.lookups.specs.declared.ZoneShown.{ZoneShown}
 use Rattle.lookups.specs.Shown.{blank_shown, window_shown, window_listed_in, zone_there, zone_listed_in}
 use Rattle.lookups.specs.Transitions.{sooner, soonest}
@@ -169,6 +170,13 @@ window_listed s i =
     let h = window_stands s i (ltb-true i n t) in
     rw t (ap (λ w. Some (window_shown w)) (sym (window_in_place s (window_place i) (omega (arith, h.0, h.1))))))
     (λ t. rw t refl))
+
+-- the same of what `get` answers of the places and `map` makes of it
+pub window_read : (s : List ℕ) (ps : List (List ℕ)) (i : ℕ) (r : Option (Bor (List ℕ))) (o : Option DSTOffsetEntry) → ps ≡ window_places s → IsItemAt ps i r
+    → MatchOption r (o ≡ None) (λ x. IsSomeAnd o (λ w. w ≡ window_shown (window_of x.now))) → o ≡ window_listed_in s i
+window_read s ps i r o e k m =
+    made (λ y. window_shown (window_of y.now)) (λ x w. w ≡ window_shown (window_of x.now)) r o m (λ x w h. h)
+    ∙ item (λ p. window_shown (window_of p)) ps (window_places s) i r e k ∙ sym (window_listed s i)
 
 -- the zone with an index, by its place
 abbrev pub name_made : ℕ → ℕ → ℕ → Option NamePlace
